@@ -5,8 +5,8 @@ use Rattle.std.proofs.lemmas.List.Elements.{All-append, All-cons, All-head, All-
 use Rattle.std.proofs.lemmas.List.Sums.{count_by-le-length, length-filter}
 use Rattle.std.specs.List.{range_with_len}
 use Rattle.std.specs.Prelude.{◌↔◌, IsSomeAnd, IsTrue, slice_get}
-use Rattle.libtest_mimic.specs.Prelude.{Adds, announcement_text, AreTimed, Arguments, counted, counts_of, Gives, has_time, HasCounted, HasRoom, HasRoomFor, info_of, InOrder, is_failed, IsIgnored, IsOutcomeOf, IsOwn, IsOwnAt, IsTime, keeps_fault, Label, label_at, label_of, labels_of, Outcome, outcomes_of, Placed, places_of, PrintedRow, row_of, rows_at, rows_of, rows_text, RowsRun, runner_of, Sink, Suite, Tally, TestInfo, timed_outcome_text, timed_row, Trial}
-use Rattle.mimic_trial.proofs.Counting.{HasRoom-counts, counts-push}
+use Rattle.libtest_mimic.specs.Prelude.{Adds, announcement_text, AreTimed, Arguments, CanCount, counted, counts_of, Gives, has_time, HasCounted, HasRoomFor, info_of, InOrder, is_failed, IsIgnored, IsOutcomeOf, IsOwn, IsOwnAt, IsTime, keeps_fault, Label, label_at, label_of, labels_of, Outcome, outcomes_of, Placed, places_of, PrintedRow, row_of, rows_at, rows_of, rows_text, RowsRun, runner_of, Sink, Suite, Tally, TestInfo, timed_outcome_text, timed_row, Trial}
+use Rattle.mimic_trial.proofs.Counting.{can_count, counts-push}
 use Rattle.mimic_printer.proofs.Adding.{adds_then}
 use Rattle.mimic_printer.proofs.FailedRows.{range-push}
 use Rattle.libtest_mimic.proofs.ArrivedRows.{rows_text-push}
@@ -115,9 +115,9 @@ length-kept t filtered_out rows h =
     omega (arith, t.failures.ok.0, length-map t.failures.items (λ p. row_of p.0 p.1), ap length h.failed, length-failed rows)
 
 -- there is room to count one more row
-pub HasRoom-tally : (t : Tally) (filtered_out : ℕ) (rows : List PrintedRow) → HasCounted t filtered_out rows → length rows < 2 ^ 64 - 1 → HasRoom t.conclusion
-HasRoom-tally t filtered_out rows h small =
-    subst HasRoom (sym h.counts) (HasRoom-counts (outcomes_of rows) filtered_out (omega (arith, length-outcomes rows)))
+pub can_count-tally : (t : Tally) (filtered_out : ℕ) (rows : List PrintedRow) (o : Outcome) → HasCounted t filtered_out rows → length rows < 2 ^ 64 - 1 → CanCount t.conclusion o
+can_count-tally t filtered_out rows o h small =
+    subst (λ c. CanCount c o) (sym h.counts) (can_count (outcomes_of rows) filtered_out o (omega (arith, length-outcomes rows)))
 
 -- and to keep it
 pub HasRoomFor-tally : (t : Tally) (filtered_out : ℕ) (rows : List PrintedRow) (n : ℕ) → HasCounted t filtered_out rows → HasRoomFor t n → length rows < n → HasRoomFor t (vec_len t.failures + 1)

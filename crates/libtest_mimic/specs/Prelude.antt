@@ -6,7 +6,7 @@ pub use Rattle.mimic_pool.specs.Inbox.{is_timed}
 pub use Rattle.mimic_pool.specs.Joined.{AnswersPart, AreJoined, AreOutcomes, IsOutcomeAt, put_each}
 pub use Rattle.mimic_pool.specs.Rows.{rows_in}
 pub use Rattle.mimic_pool.specs.Share.{assigned_from}
-pub use Rattle.mimic_pool.specs.WaitingTrials.{Holds, Runs, runs_all}
+pub use Rattle.mimic_pool.specs.WaitingTrials.{awaited, Holds, Runs, runs_all}
 pub use Rattle.mimic_pool.specs.declared.share.Assigned.{Assigned}
 pub use Rattle.mimic_pool.specs.declared.waiting_trials.WaitingTrials.{WaitingTrials}
 pub use Rattle.mimic_printer.specs.Json.{Contents, FitsEntry, FitsLabel, FitsTime, IsJsonReport}
@@ -19,14 +19,14 @@ pub use Rattle.mimic_printer.specs.Widths.{kind_width_of, name_width_of}
 pub use Rattle.mimic_printer.specs.declared.Printer.{Printer}
 pub use Rattle.mimic_printer.specs.declared.sink.Sink.{Sink}
 pub use Rattle.mimic_printer.specs.declared.sink.WriteFault.{WriteFault}
-pub use Rattle.mimic_trial.specs.Count.{counted, counts_of, HasRoom, is_failed, is_ignored_outcome, is_measured, is_passed, total_of}
+pub use Rattle.mimic_trial.specs.Count.{CanCount, counted, counts_of, is_failed, is_ignored_outcome, is_measured, is_passed, total_of}
 pub use Rattle.mimic_trial.specs.Places.{InOrder, Placed, placed_at, placed_if, places_of}
 pub use Rattle.mimic_trial.specs.Promise.{FitsTypes, Gives, IsOutcomeOf}
 pub use Rattle.mimic_trial.specs.Text.{kind_part}
 pub use Rattle.mimic_trial.specs.Trial.{AllCanRun, info_of, runner_of}
 pub use Rattle.mimic_trial.specs.declared.formats.FormatSetting.{FormatSetting}
 pub use Rattle.mimic_trial.specs.declared.outcome.Outcome.{Outcome}
-pub use Rattle.mimic_trial.specs.declared.outcome.conclusion.Conclusion.{Conclusion}
+pub use Rattle.mimic_trial.specs.declared.outcome.Conclusion.{Conclusion}
 pub use Rattle.mimic_trial.specs.declared.trial.TestInfo.{TestInfo}
 pub use Rattle.mimic_trial.specs.declared.trial.Trial.{Trial}
 pub use Rattle.libtest_mimic.specs.Arrangement.{IsArrangement, IsOwn, IsOwnAt, OnlyOwn}
@@ -40,4 +40,4 @@ pub use Rattle.libtest_mimic.specs.Suite.{AreTimed, Asked, asking, filtered_out_
 pub use Rattle.libtest_mimic.specs.declared.request.Request.{Request}
 pub use Rattle.libtest_mimic.specs.declared.running.RunError.{RunError}
 pub use Rattle.libtest_mimic.specs.declared.running.tally.Tally.{Tally}
-pub use Rattle.libtest_mimic.specs.declared.selection.Selection.{Selection}
+pub use Rattle.libtest_mimic.specs.declared.request.Selection.{Selection}

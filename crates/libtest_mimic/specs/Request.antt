@@ -2,7 +2,7 @@
 use Rattle.std.specs.Prelude.{◌≡◌}
 use Rattle.mimic_trial.specs.Promise.{Gives}
 use Rattle.libtest_mimic.specs.declared.request.Request.{Request}
-use Rattle.libtest_mimic.specs.declared.selection.Selection.{Selection}
+use Rattle.libtest_mimic.specs.declared.request.Selection.{Selection}
 use Rattle.libtest_mimic.specs.Selection.{IsSelection}
 use Rattle.libtest_mimic.specs.Suite.{Asked, asking, filtered_out_of}
 

@@ -23,17 +23,12 @@
 //! ```
 #![tactic(auto)]
 
-pub mod args;
 mod checks;
-pub mod outcome;
-pub mod pool;
 pub mod printer;
 mod request;
 mod running;
 pub mod select;
-mod selection;
 mod stopwatch;
-pub mod text;
 
 pub use mimic_args::{
     Arguments, ArgumentsError, ColorSetting, FormatSetting, Line, UnknownFormat, UnstableFlags,
@@ -44,7 +39,38 @@ pub use mimic_trial::{
     BenchRunner, Case, Check, Conclusion, Failed, Measurement, Outcome, Runner, Task, TestInfo,
     TestRunner, Trial, count_rows, run_single,
 };
-pub use request::Request;
+pub use request::{Request, Selection};
 pub use running::{RunError, run, run_from_queue, run_here, run_request};
-pub use selection::Selection;
 pub use stopwatch::{Clock, Stopwatch};
+
+/// What is asked of a run.
+pub mod args {
+    pub use mimic_args::{
+        Arguments, ArgumentsError, ColorSetting, FormatSetting, UnknownFormat, UnstableFlags,
+    };
+}
+
+/// What becomes of trials: failures, measurements, outcomes and their counts.
+pub mod outcome {
+    pub use mimic_trial::outcome::{
+        Conclusion, Failed, Measurement, Outcome, count_rows, run_single,
+    };
+}
+
+/// The parts of a run over worker threads, each of use by itself: shares, what workers report and answer, the desk where
+/// outcomes arrive, and the rows of workers that one has started.
+pub mod pool {
+    pub use crate::running::gathering::{Started, gather_rows};
+    pub use mimic_pool::{
+        Arrival, Board, BoardReports, Desk, Inbox, MemoryReports, Missing, ReadyWorkers, Reports,
+        Rows, RunningCell, RunningTrials, Schedule, Share, Untold, WaitingTrials, Workers, deal,
+        deal_next, empty_shares, join_workers, put_joined, start_workers, work, worker_count,
+    };
+}
+
+/// The small texts of reports: grouped numbers, seconds, and texts in JSON.
+pub mod text {
+    pub use mimic_trial::{
+        Escaped, escape_char, exact_seconds, fmt_with_thousand_sep, hundredths, thousands,
+    };
+}

@@ -3,16 +3,12 @@ ghost use Rattle.std.specs.Prelude.{◌≡◌, ◌≢◌, ◌≤◌, [], Err};
 ghost use Rattle.libtest_mimic.specs.Prelude.{AllCanRun, asked_by, asking, done, HasFaultLeft, IsFresh, IsRun, IsRunning, IsSelected, Lists, shown, threads_of};
 
 mod arrivals;
-mod desk_rows;
 pub(crate) mod gathering;
 mod in_order;
 mod in_workers;
-mod summary;
 pub(crate) mod tally;
-mod timing;
 
-use crate::request::Request;
-use crate::selection::Selection;
+use crate::request::{Request, Selection};
 use crate::stopwatch::{Clock, Stopwatch};
 use in_order::run_in_order;
 use in_workers::run_in_workers;

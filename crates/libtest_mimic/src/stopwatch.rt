@@ -1,7 +1,8 @@
 //! The time that a run takes.
-ghost use Rattle.std.specs.Prelude.{◌≡◌, ◌↔◌, IsTrue};
-ghost use Rattle.libtest_mimic.specs.Prelude.{elapsed_of, IsFresh, IsRunning, StopsAfter};
+ghost use Rattle.std.specs.Prelude.{◌≡◌, ◌↔◌, IsTrue, ◌&&◌, is_some};
+ghost use Rattle.libtest_mimic.specs.Prelude.{elapsed_of, IsFresh, IsRunning, StopsAfter, has_time, IsTime};
 
+use mimic_trial::Outcome;
 use std::marker::Model;
 
 /// A clock that counts nanoseconds from some moment on.
@@ -95,5 +96,34 @@ impl<C: Clock> Stopwatch<C> {
             Readings::Stopped { started, stopped } => Some(stopped.saturating_sub(started)),
             _ => None,
         }
+    }
+}
+
+// Reads the clock before a trial runs, if times are asked for.
+#[inline(always)]
+pub(crate) fn start<C: Clock>(watch: &mut Stopwatch<C>, is_asked: bool) -> Option<u64>
+    ensures asked { is_some result ≡ is_asked }
+    ensures readings { watch.new ≡ watch.old }
+{
+    if is_asked { Some(watch.read()) } else { None }
+}
+
+// Reads the clock after a trial has run, and returns how many nanoseconds it took since that reading: 0 if the clock went back.
+#[inline(always)]
+pub(crate) fn elapsed<C: Clock>(watch: &mut Stopwatch<C>, started: Option<u64>) -> Option<u64>
+    ensures asked { is_some result ≡ is_some started }
+    ensures readings { watch.new ≡ watch.old }
+{
+    let started = started?;
+    Some(watch.read().saturating_sub(started))
+}
+
+// The time that a row of this outcome shows: only trials that passed or failed have one.
+pub(crate) fn time_shown(outcome: &Outcome, nanos: Option<u64>) -> Option<u64>
+    ensures { IsTime (is_some nanos && has_time outcome.now) result }
+{
+    match outcome {
+        Outcome::Passed | Outcome::Failed(_) => nanos,
+        Outcome::Ignored | Outcome::Measured(_) => None,
     }
 }

@@ -7,7 +7,7 @@ use Rattle.mimic_trial.specs.declared.outcome.Outcome.{Outcome}
 use Rattle.mimic_trial.specs.declared.outcome.Outcome.TheVariants.{Measured}
 use Rattle.mimic_printer.specs.Row.{Label}
 use Rattle.mimic_printer.specs.Json.{Contents, HasNoEnd, IsLine, json_announcement, json_outcome, json_summary, json_title}
-use Rattle.mimic_trial.specs.declared.outcome.conclusion.Conclusion.{Conclusion}
+use Rattle.mimic_trial.specs.declared.outcome.Conclusion.{Conclusion}
 use Rattle.mimic_events.specs.declared.report.Totals.{Totals}
 use Rattle.mimic_events.specs.Contents.{Spells, totals_of}
 use Rattle.mimic_events.specs.Progress.{LeadsFrom, Next, State, Step, announced_from, state_text, title_next, row_next, outcome_next, nothing_next}

@@ -9,8 +9,8 @@ use Rattle.mimic_events.specs.Contents.{entry_read}
 use Rattle.mimic_events.specs.Reading.{Decodes}
 use Rattle.mimic_events.specs.SoFar.{IsFirstWrong}
 use Rattle.mimic_events.specs.Follower.{FollowsOn, FollowsRow, HasFollowed}
-use Rattle.mimic_events.specs.declared.fault.ReadFault.{ReadFault}
-use Rattle.mimic_events.specs.declared.fault.ReadFault.TheVariants.{Cut, Input, OutOfMemory, WrongLine}
+use Rattle.mimic_events.specs.declared.input.ReadFault.{ReadFault}
+use Rattle.mimic_events.specs.declared.input.ReadFault.TheVariants.{Cut, Input, OutOfMemory, WrongLine}
 use Rattle.mimic_events.specs.declared.rows.InputRows.{InputRows}
 use Rattle.mimic_events.specs.Readings.{HasEndedRows, IsRead, IsReading}
 use Rattle.mimic_events.specs.declared.ending.Ending.{Ending}

@@ -5,8 +5,8 @@ use Rattle.mimic_printer.specs.Json.{Contents}
 use Rattle.mimic_events.specs.Contents.{Spells, contents_read}
 use Rattle.mimic_events.specs.SoFar.{IsFirstWrong}
 use Rattle.mimic_events.specs.declared.report.Report.{Report}
-use Rattle.mimic_events.specs.declared.fault.ReadFault.{ReadFault}
-use Rattle.mimic_events.specs.declared.fault.ReadFault.TheVariants as read
+use Rattle.mimic_events.specs.declared.input.ReadFault.{ReadFault}
+use Rattle.mimic_events.specs.declared.input.ReadFault.TheVariants as read
 
 -- the input's bytes, if they are known, are this report
 abbrev pub IsReportIn : Option (List ℕ) → Report → Type 0

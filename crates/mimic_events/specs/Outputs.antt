@@ -2,7 +2,7 @@
 use Rattle.std.specs.Prelude.{◌≡◌, ◌⊎◌, ℕ, List, [], ◌∷◌, ◌++◌, length, codes, decimal, Option, IfSome, Result, MatchResult, ⊤}
 use Rattle.std.specs.List.{concat}
 use Rattle.std.specs.Io.KnownBytes.{Appends, Keeps}
-use Rattle.mimic_trial.specs.declared.outcome.conclusion.Conclusion.{Conclusion}
+use Rattle.mimic_trial.specs.declared.outcome.Conclusion.{Conclusion}
 use Rattle.mimic_printer.specs.Json.{Contents, IsJsonReport, conclusion_of}
 use Rattle.mimic_events.specs.declared.readreport.Fault.{Fault}
 use Rattle.mimic_events.specs.declared.readreport.Fault.TheVariants.{Read, NoReport, Write, OutOfMemory}

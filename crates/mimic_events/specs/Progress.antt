@@ -5,8 +5,8 @@ use Rattle.mimic_trial.specs.Count.{counts_of}
 use Rattle.mimic_printer.specs.Row.{Label}
 use Rattle.mimic_printer.specs.Json.{Entry, FitsEntry, FitsLabel, entry_lines, json_announcement, json_outcome, json_summary, json_title, outcomes_in}
 pub use Rattle.mimic_printer.specs.Json.{HasNoEnd, IsLine}
-use Rattle.mimic_events.specs.declared.stage.Stage.{Stage}
-use Rattle.mimic_events.specs.declared.stage.Stage.TheVariants as stage
+use Rattle.mimic_events.specs.declared.progress.Stage.{Stage}
+use Rattle.mimic_events.specs.declared.progress.Stage.TheVariants as stage
 use Rattle.mimic_events.specs.declared.progress.Progress.{Progress}
 use Rattle.mimic_events.specs.declared.progress.Taken.{Taken}
 use Rattle.mimic_events.specs.declared.progress.Taken.TheVariants.{Astray, Read}

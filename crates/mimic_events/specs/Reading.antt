@@ -1,7 +1,7 @@
 -- What readers return, and what they read.
 use Rattle.std.specs.Prelude.{◌≡◌, ℕ, ◌<◌, ◌^◌, true, List, decimal, Option, Some, None}
 use Rattle.mimic_trial.specs.declared.outcome.Outcome.{Outcome}
-use Rattle.mimic_trial.specs.declared.outcome.conclusion.Conclusion.{Conclusion}
+use Rattle.mimic_trial.specs.declared.outcome.Conclusion.{Conclusion}
 use Rattle.mimic_trial.specs.Count.{counts_of, is_failed}
 use Rattle.mimic_printer.specs.Json.{Entry, FitsEntry, FitsLabel, FitsTime, json_title, json_announcement, json_outcome, json_summary, outcomes_in}
 use Rattle.mimic_printer.specs.Row.{Label}

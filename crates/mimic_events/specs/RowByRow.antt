@@ -3,8 +3,8 @@ use Rattle.std.specs.Prelude.{ℕ, ◌-◌, ◌<◌, ◌≤◌, List, ◌++◌, 
 use Rattle.std.specs.Io.KnownBytes.{Consumes}
 use Rattle.mimic_printer.specs.Json.{Entry}
 use Rattle.mimic_events.specs.Follower.{HasFollowed}
-use Rattle.mimic_events.specs.declared.fault.ReadFault.{ReadFault}
-use Rattle.mimic_events.specs.declared.fault.ReadFault.TheVariants as read
+use Rattle.mimic_events.specs.declared.input.ReadFault.{ReadFault}
+use Rattle.mimic_events.specs.declared.input.ReadFault.TheVariants as read
 use Rattle.mimic_events.specs.declared.rows.InputRows.{InputRows}
 use Rattle.mimic_events.specs.Readings.{IsOver}
 

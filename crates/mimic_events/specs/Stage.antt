@@ -1,7 +1,7 @@
 -- What is known of the number of rows, by which line comes next. No public clause names these words.
 use Rattle.std.specs.Prelude.{ℕ}
-use Rattle.mimic_events.specs.declared.stage.Stage.{Stage}
-use Rattle.mimic_events.specs.declared.stage.Stage.TheVariants as stage
+use Rattle.mimic_events.specs.declared.progress.Stage.{Stage}
+use Rattle.mimic_events.specs.declared.progress.Stage.TheVariants as stage
 
 -- how many have begun and not ended: one if its outcome comes next
 abbrev pub begun : Stage → ℕ

@@ -26,7 +26,7 @@ pub enum Ending {
 pub struct Stop {
     /// The number of trials that its title announces. `None` says that it has no title, so that it is no report.
     pub announced: Option<u64>,
-    /// The trial whose announcement is the last line that has ended, if it is one.
+    /// The trial that was announced last, if its outcome didn't follow: before the end, or before a line that no report has there.
     pub running: Option<Label>,
     /// The number, from 1, of the first line that no report has there. `None` says that all ended lines are those of a report.
     pub wrong_line: Option<u128>,

@@ -1,13 +1,18 @@
 //! Reads reports, whole and in pieces.
-ghost use Rattle.std.specs.Prelude.{◌≡◌, ◌++◌, [], true, false, IfOk, IsErr, MatchOption, OnErr, OnOk, map, option_map};
+ghost use Rattle.std.specs.Prelude.{◌≡◌, ◌++◌, [], true, false, IfOk, IsErr, MatchOption, OnErr, OnOk, map, option_map, MatchResult};
 ghost use Rattle.mimic_events.specs.Contents.{Spells, contents_read, entry_read, label_read};
 ghost use Rattle.mimic_events.specs.Feed.{AreEnded, FindsSoFar};
 ghost use Rattle.mimic_events.specs.Reading.{Decodes};
 ghost use Rattle.mimic_events.specs.SoFar.{BeginsWithTitle, IsFirstWrong, ShowsRunning};
+ghost use Rattle.mimic_events.specs.Inputs.{GivesNone, IsReportIn};
 
+use crate::ending::Ending;
 use crate::follower::Follower;
+use crate::input::ReadFault;
 use crate::report::{Label, Report, Row};
+use crate::taker::{RowsRead, read_rows};
 use std::alloc::{AllocError, Global};
+use std::io::Read;
 use std::marker::Model;
 
 /// Reads a report whose bytes come in pieces, cut anywhere. Contracts see the bytes so far, and whether an allocation
@@ -121,4 +126,31 @@ pub fn read_report(alloc: Global, bytes: &[u8]) -> Result<Option<Report>, AllocE
     let mut feed = Feed::new(alloc)?;
     feed.feed(bytes)?;
     feed.finish()
+}
+
+/// Reads the report that the reader gives up to its end, in pieces of 64 KB. Only the rows are kept, and the line that has not
+/// ended.
+///
+/// A read that was interrupted is tried again. Behind a piece with a wrong line nothing more is read.
+#[tactic(auto, using(crate::proofs::ReadBytes::cut_in, crate::proofs::ReadBytes::wrong_in))]
+pub fn read_from<I: Read>(alloc: Global, input: &mut I) -> Result<Report, ReadFault>
+    ensures { MatchResult result (IsReportIn (I.remaining input.old))
+        (GivesNone (I.remaining input.old)) }
+{
+    let RowsRead { rows, ending } = read_rows(alloc, input)?;
+    match ending {
+        Ending::Whole {
+            filtered_out,
+            nanos,
+        } => Ok(Report {
+            rows,
+            filtered_out,
+            nanos,
+        }),
+        Ending::Cut(stop) => match stop.wrong_line {
+            Some(number) => Err(ReadFault::WrongLine(number)),
+            None => Err(ReadFault::Cut),
+        },
+        Ending::Failed(error) => Err(ReadFault::Input(error)),
+    }
 }

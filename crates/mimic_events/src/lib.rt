@@ -40,10 +40,7 @@
 //! ```
 #![tactic(auto)]
 
-mod counts;
 mod ending;
-mod ends;
-mod fault;
 mod feed;
 mod follower;
 mod input;
@@ -52,32 +49,25 @@ mod lines;
 mod numbers;
 mod progress;
 mod quoted_text;
-mod reading;
 mod readreport;
 mod report;
 mod row_lines;
 mod row_reader;
 mod rows;
-mod rows_read;
-mod stage;
 mod summary;
 mod taker;
 mod tally;
 mod write;
 
-pub use counts::counts_of_rows;
 pub use ending::{Ending, Stop};
-pub use fault::ReadFault;
-pub use feed::{Feed, read_report};
+pub use feed::{Feed, read_from, read_report};
 pub use follower::Follower;
-pub use input::{PIECE, read_piece};
+pub use input::{PIECE, ReadFault, read_piece};
 pub use key::Key;
 pub use lines::read_failed_line;
-pub use reading::read_from;
 pub use readreport::readreport_run;
-pub use report::{Label, Report, Row, Totals};
+pub use report::{Label, Report, Row, Totals, counts_of_rows};
 pub use rows::InputRows;
-pub use rows_read::{RowsRead, read_rows};
-pub use taker::{RowTaker, read_into};
+pub use taker::{RowTaker, RowsRead, read_into, read_rows};
 pub use tally::Tally;
 pub use write::{add_row, write_report};

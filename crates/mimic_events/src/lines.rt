@@ -1,12 +1,12 @@
 //! Reads the lines of a report, each with its line end.
-ghost use Rattle.std.specs.Prelude.{◌≡◌, ◌≢◌, ◌∷◌, ◌++◌, ℕ, List, IfOk, MatchOption, IsUtf8, codes, option_map, string_bytes, true, false};
+ghost use Rattle.std.specs.Prelude.{◌≡◌, ◌≢◌, ◌∷◌, ◌++◌, ℕ, List, IfOk, MatchOption, IsUtf8, codes, option_map, string_bytes, true, false, map};
 ghost use Rattle.mimic_trial.specs.Escape.{escaped};
 ghost use Rattle.mimic_events.specs.Contents.{entry_read, label_read};
 ghost use Rattle.mimic_printer.specs.Json.{kind_field};
 ghost use Rattle.mimic_events.specs.LineParts.{Follows, IsFailedEnd, IsKind, IsMessage, IsQuoted, IsSaid, IsTail, IsTime, SaysFailed, SaysKind};
 ghost use Rattle.mimic_events.specs.Reading.{Decodes, IsTitle, IsAnnouncement, IsFailedLine, IsOutcome};
+ghost use Rattle.std.specs.List.{concat};
 
-use crate::ends::{after, before};
 use crate::numbers::{number_at, time_at};
 use crate::quoted_text::{after_quoted, quoted_after};
 use crate::report::{Label, Row};
@@ -263,4 +263,33 @@ fn text_of(bytes: Vec<u8>) -> Option<String>
         (λ text. (string_bytes text ≡ bytes.items) × IsUtf8 bytes.items) }
 {
     String::from_utf8(bytes).ok()
+}
+
+// Returns what follows the front, if the text begins with it. Compiled into its caller, a known front is compared in words.
+#[inline(always)]
+pub(crate) fn after<'a>(text: &'a [u8], front: &[u8]) -> Option<&'a [u8]>
+    ensures { MatchOption result ((rest : List ℕ) → text.now ≢ front.now ++ rest)
+        (λ rest. text.now ≡ front.now ++ rest.now) }
+{
+    text.strip_prefix(front)
+}
+
+// Returns what follows these fronts, if the text begins with them, one after another.
+#[tactic(auto, using(crate::proofs::Fronts::follows_next))]
+pub(crate) fn after_all<'a>(text: &'a [u8], fronts: &[&[u8]]) -> Option<&'a [u8]>
+    ensures { Follows (concat (map (λ front. front.now) fronts.now)) text.now result }
+{
+    let mut rest = text;
+    for front in fronts {
+        rest = after(rest, front)?;
+    }
+    Some(rest)
+}
+
+// Returns what comes before the back, if the text ends with it.
+pub(crate) fn before<'a>(text: &'a [u8], back: &[u8]) -> Option<&'a [u8]>
+    ensures { MatchOption result ((front : List ℕ) → text.now ≢ front ++ back.now)
+        (λ front. text.now ≡ front.now ++ back.now) }
+{
+    text.strip_suffix(back)
 }

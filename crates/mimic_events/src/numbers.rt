@@ -3,7 +3,7 @@ ghost use Rattle.std.specs.Prelude.{◌<◌, ◌+◌, ◌*◌, ◌^◌, option_m
 ghost use Rattle.mimic_events.specs.Reading.{Decodes, IsSeconds};
 ghost use Rattle.mimic_events.specs.LineParts.{ReadsDigits, ReadsFraction, ReadsNumber, ReadsSeconds, ReadsTime};
 
-use crate::ends::after;
+use crate::lines::after;
 use mimic_trial::NANOS_PER_SECOND;
 
 // Returns the number at the front, and what follows its digits.

@@ -7,7 +7,6 @@ ghost use Rattle.mimic_events.specs.Stage.{begun, most};
 use crate::lines::{announced, ended, titled};
 use crate::report::{Label, Row, Totals};
 use crate::row_lines::row_at;
-use crate::stage::Stage;
 use crate::summary::summed;
 use memchr::memchr;
 use mimic_trial::Conclusion;
@@ -179,4 +178,17 @@ pub(crate) fn first_line(bytes: &[u8]) -> Option<(&[u8], &[u8])>
 {
     let at = memchr(b'\n', bytes)?;
     Some(bytes.split_at(at + 1))
+}
+
+// Which line comes next.
+#[derive(Debug, Drop)]
+pub(crate) enum Stage {
+    // The title.
+    Title,
+    // The announcement of a row, or the summary if all rows have come.
+    Row,
+    // The outcome of the trial that was announced.
+    Outcome(Label),
+    // None: the summary said how many trials were filtered out, and the nanoseconds.
+    Over(u64, u64),
 }

@@ -3,7 +3,7 @@ ghost use Rattle.std.specs.Prelude.{◌≡◌, ◌++◌, ◌∷◌, ◌+◌, ◌
 ghost use Rattle.mimic_trial.specs.Escape.{ArePlain, escape, escaped};
 ghost use Rattle.mimic_events.specs.LineParts.{Follows, IsPlainText, named_of, control_of, candidate_of, ReadsByte, ReadsEscaped, ReadsQuoted, ReadsNamed};
 
-use crate::ends::after;
+use crate::lines::after;
 use mimic_trial::{escape_byte, next_escape};
 use std::alloc::{AllocError, Global};
 use std::simd::prelude::*;

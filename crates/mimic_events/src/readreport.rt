@@ -4,8 +4,7 @@ ghost use Rattle.mimic_events.specs.Tally.{HasRead};
 ghost use Rattle.mimic_events.specs.declared.readreport.Fault.TheVariants.{OutOfMemory};
 ghost use Rattle.mimic_events.specs.Outputs.{Ended, IsOfInput, Leaves, PutsText, counted, counts_line, fault_line};
 
-use crate::fault::ReadFault;
-use crate::input::read_piece;
+use crate::input::{ReadFault, read_piece};
 use crate::report::Totals;
 use crate::tally::Tally;
 use itoa::Buffer;

@@ -2,7 +2,6 @@
 ghost use Rattle.std.specs.Prelude.{◌≡◌, map};
 ghost use Rattle.mimic_trial.specs.Count.{counts_of};
 
-use crate::counts::counts_of_rows;
 use mimic_trial::{Conclusion, Outcome};
 
 /// What a report shows of a trial before its outcome.
@@ -57,4 +56,15 @@ pub struct Totals {
     pub counts: Conclusion,
     /// The time that the run took, in nanoseconds.
     pub nanos: u64,
+}
+
+/// Counts the rows with each outcome; `filtered_out` is how many trials were filtered out.
+pub fn counts_of_rows(rows: &[Row], filtered_out: u64) -> Conclusion
+    ensures { result ≡ counts_of (map (λ row. row.outcome) rows.now) filtered_out }
+{
+    let mut counts = Conclusion::empty(filtered_out);
+    for row in rows {
+        counts.count(&row.outcome);
+    }
+    counts
 }

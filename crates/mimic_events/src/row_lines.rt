@@ -2,7 +2,7 @@
 ghost use Rattle.std.specs.Prelude.{◌≡◌, ◌++◌, IfSome};
 ghost use Rattle.mimic_events.specs.LineParts.{BeginsEnd, BeginsEvent, BeginsRow, BeginsTail, SpellsLabel};
 
-use crate::ends::after;
+use crate::lines::after;
 use crate::numbers::time_at;
 use crate::quoted_text::plain_text_at;
 use mimic_trial::{Failed, Outcome};

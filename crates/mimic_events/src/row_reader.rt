@@ -2,7 +2,7 @@
 ghost use Rattle.std.specs.Prelude.{◌≡◌, true};
 ghost use Rattle.mimic_events.specs.Readers.{NeverBegins, line_front};
 
-use crate::ends::after;
+use crate::lines::after;
 use crate::progress::{Progress, Taken, first_line};
 use crate::report::{Label, Row, Totals};
 use std::alloc::{AllocError, Global};

@@ -6,8 +6,7 @@ ghost use Rattle.mimic_events.specs.Readings.{IsRead};
 ghost use Rattle.mimic_events.specs.RowByRow.{HasCome, HasEnded, IsReady, ReadsOn, pending};
 
 use crate::ending::Ending;
-use crate::fault::ReadFault;
-use crate::input::{PIECE, read_piece};
+use crate::input::{PIECE, ReadFault, read_piece};
 use crate::{Follower, Row};
 use std::alloc::{AllocError, Global};
 use std::io::{ErrorKind, Read};

@@ -5,7 +5,7 @@ ghost use Rattle.mimic_printer.specs.Json.{Entry, summary_front};
 ghost use Rattle.mimic_events.specs.LineParts.{Follows, IsTotals};
 ghost use Rattle.mimic_events.specs.Reading.{Decodes, HasCounts, IsSummary};
 
-use crate::ends::{after, after_all, before};
+use crate::lines::{after, after_all, before};
 use crate::numbers::{number_at, seconds};
 use itoa::Buffer;
 use mimic_printer::json_verdict;

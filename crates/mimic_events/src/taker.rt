@@ -1,5 +1,5 @@
 //! Gives the rows of an input to whoever takes them.
-ghost use Rattle.std.specs.Prelude.{◌≡◌, ◌<◌, ◌-◌, ◌^◌, ◌++◌, ◌∷◌, [], ℕ, IfSome, List, MatchResult, length};
+ghost use Rattle.std.specs.Prelude.{◌≡◌, ◌<◌, ◌-◌, ◌^◌, ◌++◌, ◌∷◌, [], ℕ, IfSome, List, MatchResult, length, IfOk, map};
 ghost use Rattle.mimic_printer.specs.Json.{Entry};
 ghost use Rattle.mimic_printer.specs.declared.sink.OutputFault.{OutputFault as AnyFault};
 ghost use Rattle.mimic_printer.specs.declared.sink.OutputFault.TheVariants.{OutOfMemory};
@@ -8,10 +8,10 @@ ghost use Rattle.mimic_events.specs.Readings.{HasEndedRows, IsReading};
 
 use crate::Row;
 use crate::ending::Ending;
-use crate::fault::ReadFault;
+use crate::input::ReadFault;
 use crate::rows::InputRows;
 use mimic_printer::OutputFault;
-use std::alloc::Global;
+use std::alloc::{AllocError, Global};
 use std::io::{ErrorKind, Read};
 
 /// Takes the rows of a report, one after another.
@@ -60,4 +60,43 @@ pub fn read_into<I: Read + Drop, T: RowTaker>(
         }
     }
     Ok(Ending::Failed(ErrorKind::Other.into()))
+}
+
+/// What was read of a report that may have no end.
+#[derive(Debug, Drop)]
+pub struct RowsRead {
+    /// The rows that have ended, before the first line that no report has there or the reader's error.
+    pub rows: Vec<Row>,
+    /// How the report ended.
+    pub ending: Ending,
+}
+
+/// Reads a report to its end, or to the first line that no report has there, and keeps its rows.
+///
+/// A read that was interrupted is tried again. It fails only if there is no memory.
+pub fn read_rows<I: Read + Drop>(alloc: Global, input: I) -> Result<RowsRead, AllocError>
+    ensures { IfOk result (λ read. IfSome (I.remaining input)
+        (IsReading (map entry_read read.rows.items) read.ending)) }
+{
+    let mut rows = Vec::new(alloc);
+    match read_into(alloc, input, &mut rows) {
+        Ok(ending) => Ok(RowsRead { rows, ending }),
+        // To keep rows needs memory, and nothing else.
+        Err(_) => Err(AllocError),
+    }
+}
+
+impl RowTaker for Vec<Row> {
+    ghost use Rattle.std.specs.Prelude.{◌≡◌, ◌++◌, map};
+    ghost use Rattle.mimic_printer.specs.declared.sink.OutputFault.TheVariants.{OutOfMemory};
+    ghost use Rattle.mimic_events.specs.Contents.{entry_read};
+
+    ghost takes = { λ old rows new. map entry_read new.items ≡ map entry_read old.items ++ rows };
+
+    ghost stops = { λ old rows fault new. fault ≡ OutOfMemory };
+
+    fn take(&mut self, row: Row) -> Result<(), OutputFault> {
+        self.push(row)?;
+        Ok(())
+    }
 }

@@ -8,8 +8,7 @@ ghost use Rattle.mimic_events.specs.Contents.{Spells, contents_read};
 ghost use Rattle.mimic_events.specs.Reading.{IsReadAs};
 ghost use Rattle.mimic_events.specs.Written.{FitsRow, row_lines};
 
-use crate::counts::counts_of_rows;
-use crate::report::{Report, Row};
+use crate::report::{Report, Row, counts_of_rows};
 use mimic_printer::json::{add_summary, add_title};
 use mimic_printer::{Sink, WriteFault, json};
 use mimic_trial::Outcome;

@@ -10,7 +10,7 @@ use Rattle.mimic_events.specs.Readings.{IsReading, is_whole}
 use Rattle.mimic_events.specs.Written.{row_lines}
 use Rattle.mimic_events.specs.declared.ending.Ending.{Ending}
 use Rattle.mimic_events.specs.declared.ending.Ending.TheVariants.{Whole, Cut, Failed}
-use Rattle.mimic_events.specs.declared.rows_read.RowsRead.{RowsRead}
+use Rattle.mimic_events.specs.declared.taker.RowsRead.{RowsRead}
 use Rattle.mimic_events.specs.declared.report.Row.{Row}
 use Rattle.mimic_join.specs.Cut.{AreReadOf, cut_report, cut_text, are_whole, ended_rows, titles_in, wholes_in}
 use Rattle.mimic_join.specs.Inputs.{AreReportsIn}

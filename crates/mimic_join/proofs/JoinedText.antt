@@ -5,7 +5,7 @@ use Rattle.std.proofs.lemmas.List.{length-map}
 use Rattle.std.proofs.lemmas.Simd.{map-map}
 use Rattle.std.proofs.lemmas.List.Folds.{concat-append, flat_map-map}
 use Rattle.mimic_trial.specs.Count.{counts_of}
-use Rattle.mimic_trial.specs.declared.outcome.conclusion.Conclusion.{Conclusion}
+use Rattle.mimic_trial.specs.declared.outcome.Conclusion.{Conclusion}
 use Rattle.mimic_printer.specs.Json.{conclusion_of, entry_lines, json_report, json_summary, json_title}
 use Rattle.mimic_events.specs.Contents.{entry_read}
 use Rattle.mimic_events.specs.Written.{row_lines}

@@ -3,7 +3,7 @@ use Rattle.std.proofs.Common.{◌≡◌, ℕ, List, ◌∷◌, ◌++◌, length,
 use Rattle.std.proofs.lemmas.List.{length-map, map-append}
 use Rattle.std.proofs.Math.Seq.{get_or-append_seam, take-append_seam}
 use Rattle.mimic_events.specs.declared.report.Report.{Report}
-use Rattle.mimic_events.specs.declared.fault.ReadFault.{ReadFault}
+use Rattle.mimic_events.specs.declared.input.ReadFault.{ReadFault}
 use Rattle.mimic_events.specs.Inputs.{GivesNone}
 use Rattle.mimic_join.specs.Inputs.{AreReportsIn, FailsAt}
 

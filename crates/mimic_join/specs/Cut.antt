@@ -10,7 +10,7 @@ use Rattle.mimic_events.specs.Written.{row_lines}
 use Rattle.mimic_events.specs.declared.ending.Ending.TheVariants.{Whole, Cut, Failed}
 use Rattle.mimic_events.specs.declared.report.Report.{Report}
 use Rattle.mimic_events.specs.declared.report.Row.{Row}
-use Rattle.mimic_events.specs.declared.rows_read.RowsRead.{RowsRead}
+use Rattle.mimic_events.specs.declared.taker.RowsRead.{RowsRead}
 use Rattle.mimic_join.specs.Inputs.{Leaves}
 use Rattle.mimic_join.specs.Turns.{in_turn}
 use Rattle.mimic_join.specs.declared.cut.Joined.{Joined}

@@ -5,8 +5,8 @@ use Rattle.mimic_join.specs.declared.faults.JoinFault.{JoinFault}
 use Rattle.mimic_join.specs.declared.faults.JoinFault.TheVariants as join
 use Rattle.mimic_join.specs.declared.join.Refusal.{Refusal}
 use Rattle.mimic_join.specs.declared.join.Refusal.TheVariants.{Number, Uneven, NamedTwice, TooMany}
-use Rattle.mimic_events.specs.declared.fault.ReadFault.{ReadFault}
-use Rattle.mimic_events.specs.declared.fault.ReadFault.TheVariants as read
+use Rattle.mimic_events.specs.declared.input.ReadFault.{ReadFault}
+use Rattle.mimic_events.specs.declared.input.ReadFault.TheVariants as read
 
 -- the line that announces the row of this place: the title comes first, and each row has two lines
 abbrev pub row_line : ℕ → ℕ

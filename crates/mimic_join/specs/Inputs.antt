@@ -1,12 +1,12 @@
 -- What inputs are that reports are read from, and what a join of them leaves.
 use Rattle.std.specs.Prelude.{◌≡◌, ℕ, ◌^◌, ◌<◌, Bool, List, length, slice_index_or, take, Option, None, Result, Ok, Err, ⊤}
 use Rattle.std.specs.List.{AllZip}
-use Rattle.mimic_trial.specs.declared.outcome.conclusion.Conclusion.{Conclusion}
+use Rattle.mimic_trial.specs.declared.outcome.Conclusion.{Conclusion}
 use Rattle.mimic_printer.specs.Json.{conclusion_of, json_report}
 use Rattle.mimic_printer.specs.Sink.{Put, Shown, Stopped}
 use Rattle.mimic_events.specs.declared.report.Report.{Report}
 use Rattle.mimic_events.specs.Inputs.{GivesNone, IsReportIn}
-use Rattle.mimic_events.specs.declared.fault.ReadFault.{ReadFault}
+use Rattle.mimic_events.specs.declared.input.ReadFault.{ReadFault}
 use Rattle.mimic_join.specs.Joined.{CanBeShards, IsRefused, filtered_out_of, joined_contents}
 use Rattle.mimic_join.specs.declared.join.Refusal.{Refusal}
 use Rattle.mimic_join.specs.declared.faults.JoinFault.{JoinFault}

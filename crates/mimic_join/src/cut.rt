@@ -7,8 +7,7 @@ ghost use Rattle.mimic_join.specs.Cut.{AreReadOf, LeavesCut, are_whole, cut_text
 
 use crate::faults::JoinFault;
 use crate::inputs::add_joined;
-use crate::order::ended_in_turn;
-use crate::write::add_rows;
+use crate::order::{add_rows, ended_in_turn};
 use mimic_events::{Ending, Report, Row, RowsRead, read_rows};
 use mimic_printer::Sink;
 use mimic_printer::json::add_title;

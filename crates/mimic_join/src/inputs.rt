@@ -7,8 +7,7 @@ ghost use Rattle.mimic_join.specs.Joined.{CanBeShards, IsRefused, filtered_out_o
 
 use crate::faults::JoinFault;
 use crate::join::{Refusal, totals_of};
-use crate::order::refs_in_turn;
-use crate::write::{add_rows, counts_of_refs};
+use crate::order::{add_rows, counts_of_refs, refs_in_turn};
 use mimic_events::{Report, read_from};
 use mimic_printer::Sink;
 use mimic_printer::json::{add_summary, add_title};

@@ -1,12 +1,14 @@
 //! The reports of shards as one.
-ghost use Rattle.std.specs.Prelude.{◌≡◌, IfOk, MatchResult, map};
-ghost use Rattle.mimic_join.specs.Joined.{CanBeShards, IsRefused, Joins, JoinLaws, filtered_out_of, greatest, time_of};
+ghost use Rattle.std.specs.Prelude.{◌≡◌, IfOk, MatchResult, map, ◌<◌, ◌++◌, List, length, All, AllPairs, Contains, OnOk, MatchOption, slice_index_or, ◌≤◌, ◌^◌};
+ghost use Rattle.mimic_join.specs.Joined.{CanBeShards, IsRefused, Joins, JoinLaws, filtered_out_of, greatest, time_of, HaveOwnNames, IsNamedTwice, FallsByOne, IsUneven, trials_in};
+ghost use Rattle.mimic_printer.specs.Row.{Label};
+ghost use Rattle.mimic_events.specs.Key.{HasTrials, label_in};
+ghost use Rattle.mimic_events.specs.declared.report.Row.{Row};
 
-use crate::names::named_twice;
-use crate::numbers::{totals, uneven};
 use crate::order::rows_in_turn;
-use mimic_events::Report;
+use mimic_events::{Key, Report, Row};
 use std::alloc::{AllocError, Global};
+use std::collections::HashSet;
 use thiserror::Error;
 
 /// Why reports are not joined. Places count from 0.
@@ -87,4 +89,99 @@ pub(crate) fn totals_of(
         Some((place, row)) => Ok(Err(Refusal::NamedTwice { place, row })),
         None => Ok(Ok(totals)),
     }
+}
+
+// Returns the place of the first report with a row whose kind and name are in a report before it, and that of its first such
+// row.
+pub(crate) fn named_twice(
+    alloc: Global,
+    reports: &[Report],
+) -> Result<Option<(usize, usize)>, AllocError>
+    ensures { IfOk result (λ found. MatchOption found (AllPairs HaveOwnNames reports.now)
+        (λ at. IsNamedTwice reports.now at.0 at.1)) }
+{
+    // As many as can be counted.
+    let rows = reports.iter().fold(
+        0_usize,
+        |rows, report| rows.saturating_add(report.rows.len()),
+    );
+    let mut seen = HashSet::with_capacity(alloc, rows)?;
+    for (place, report) in reports.iter().enumerate() {
+        if let Some(row) = seen_row(&seen, &report.rows) {
+            return Ok(Some((place, row)));
+        }
+        add_names(&mut seen, &report.rows)?;
+    }
+    Ok(None)
+}
+
+// Returns the place of the first row whose kind and name were seen.
+#[inline(never)]
+fn seen_row(seen: &HashSet<Key<'_>>, rows: &[Row]) -> Option<usize>
+    ensures { (labels : List Label) → HasTrials seen.now labels → MatchOption result
+        (All (λ row. ¬ Contains labels (label_in row)) rows.now)
+        (λ place. (place < length rows.now)
+        × ((d : Row) → Contains labels (label_in (slice_index_or rows.now place d)))) }
+{
+    for (place, row) in rows.iter().enumerate() {
+        if (&*seen).contains(&Key::Trial(row)) {
+            return Some(place);
+        }
+    }
+    None
+}
+
+#[inline(never)]
+fn add_names<'a>(seen: &mut HashSet<Key<'a>>, rows: &'a [Row]) -> Result<(), AllocError>
+    ensures { OnOk result ((labels : List Label) → HasTrials seen.old labels
+        → HasTrials seen.new (labels ++ map label_in rows.now)) }
+{
+    for row in rows {
+        seen.insert(Key::Trial(row))?;
+    }
+    Ok(())
+}
+
+// Returns the place of the first report that has more trials than one before it, or at least two less.
+pub(crate) fn uneven(reports: &[Report]) -> Option<usize>
+    ensures { MatchOption result (AllPairs FallsByOne reports.now) (IsUneven reports.now) }
+{
+    let mut first = 0;
+    let mut last = 0;
+    for (place, report) in reports.iter().enumerate() {
+        let trials = trials_of(report);
+        if place == 0 {
+            first = trials;
+        } else if last < trials || trials + 1 < first {
+            return Some(place);
+        }
+        last = trials;
+    }
+    None
+}
+
+// Returns how many trials were given to the run of the report. The sum may pass a `u64`.
+fn trials_of(report: &Report) -> u128
+    ensures trials { result ≡ trials_in report.now }
+    ensures fits { result < 2 ^ 65 }
+{
+    let filtered_out = report.filtered_out;
+    report.rows.len() as u128 + u128::from(filtered_out)
+}
+
+// Returns the number of all trials that were filtered out, and the greatest time. `None` says that the number doesn't fit.
+pub(crate) fn totals(reports: &[Report]) -> Option<(u64, u64)>
+    ensures { MatchOption result (2 ^ 64 ≤ filtered_out_of reports.now)
+        (λ x. (x.0 ≡ filtered_out_of reports.now) × (x.1 ≡ greatest (map time_of reports.now))) }
+{
+    let mut filtered_out = 0_u64;
+    let mut nanos = 0;
+    for report in reports {
+        let Some(sum) = filtered_out.checked_add(report.filtered_out) else {
+            return None;
+        };
+        filtered_out = sum;
+        nanos = nanos.max(report.nanos);
+    }
+    Some((filtered_out, nanos))
 }

@@ -19,10 +19,7 @@ mod cut;
 mod faults;
 mod inputs;
 mod join;
-mod names;
-mod numbers;
 mod order;
-mod write;
 
 pub use cut::{Joined, join_cut_reports};
 pub use faults::{JoinFault, NamedFault};

@@ -1,16 +1,22 @@
 //! The rows of reports in turn.
 ghost use Rattle.std.specs.Prelude.{◌≡◌, All, IfOk, List, map};
-ghost use Rattle.std.specs.List.{AllZip};
+ghost use Rattle.std.specs.List.{AllZip, flat_map};
 ghost use Rattle.std.specs.Iterator.{AlwaysYields, IsFinite};
 ghost use Rattle.mimic_events.specs.declared.report.Row.{Row};
 ghost use Rattle.mimic_join.specs.Cut.{ended_rows};
 ghost use Rattle.mimic_join.specs.Joined.{rows_in};
 ghost use Rattle.mimic_join.specs.Turns.{in_turn};
+ghost use Rattle.mimic_trial.specs.Count.{counts_of};
+ghost use Rattle.mimic_printer.specs.Sink.{Adds};
+ghost use Rattle.mimic_events.specs.Written.{row_lines};
 
 use crate::cut::ended_rows;
-use mimic_events::{Report, Row, RowsRead};
+use mimic_events::{Report, Row, RowsRead, add_row};
+use mimic_printer::Sink;
+use mimic_trial::Conclusion;
 use std::alloc::{AllocError, Global};
 use std::collections::VecDeque;
+use std::io::Write;
 
 // Returns the rows of the reports in turn.
 pub(crate) fn rows_in_turn(alloc: Global, reports: Vec<Report>) -> Result<Vec<Row>, AllocError>
@@ -58,4 +64,28 @@ where
         }
     }
     Ok(rows)
+}
+
+// Counts the rows with each outcome.
+pub(crate) fn counts_of_refs(rows: &[&Row], filtered_out: u64) -> Conclusion
+    ensures { result ≡ counts_of (map (λ row. row.now.outcome) rows.now) filtered_out }
+{
+    let mut counts = Conclusion::empty(filtered_out);
+    for row in rows {
+        counts.count(&row.outcome);
+    }
+    counts
+}
+
+// Adds the rows, which are elsewhere.
+#[inline(never)]
+pub(crate) fn add_rows<W: Write>(sink: &mut Sink<W>, rows: &[&Row])
+    ensures { Adds W.contents sink.old sink.new (flat_map (λ row. row_lines row.now) rows.now) }
+{
+    for row in rows {
+        if sink.has_fault() {
+            break;
+        }
+        add_row(sink, row);
+    }
 }

@@ -17,6 +17,11 @@ module _ {X : Type 0} where
   Holds can_run (waiting.Shares shares) trials = AreDealt can_run shares.items trials
   Holds can_run (waiting.Queue queue) trials = HoldsQueue can_run queue trials
 
+  -- how many workers the trials wait for
+  abbrev pub awaited : WaitingTrials X → ℕ
+  awaited (waiting.Shares shares) = vec_len shares
+  awaited (waiting.Queue queue) = queue.workers
+
   -- workers can be started for these trials
   abbrev pub AreReady : (X → Type 0) → ReadyWorkers X → List (Assigned X) → Type 0
   AreReady can_run (ready.Shares made) trials = AreDealt can_run (shares_of made.workers.items) trials
@@ -26,6 +31,11 @@ module _ {X : Type 0} where
   abbrev pub workers_of : ReadyWorkers X → ℕ
   workers_of (ready.Shares made) = vec_len made.workers
   workers_of (ready.Queue made) = vec_len made.workers
+
+  -- how many workers were started
+  abbrev pub started_in : Workers X → ℕ
+  started_in (workers.Shares started) = vec_len started.handles
+  started_in (workers.Queue started) = vec_len started.handles
 
   -- workers were started for these trials in this mode
   abbrev pub Runs : Gives X → Workers X → Bool → List (Assigned X) → Type 0

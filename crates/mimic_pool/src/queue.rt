@@ -78,7 +78,8 @@ impl<T: Task> Queue<T> {
     // An empty queue, from which `workers` will take `trials`.
     pub(crate) fn new(alloc: Global, trials: usize, workers: usize) -> Result<Queue<T>, AllocError>
         requires some_worker { 1 ≤ workers }
-        ensures { IfOk result (λ queue. HoldsQueue T.can_run queue []) }
+        ensures empty { IfOk result (λ queue. HoldsQueue T.can_run queue []) }
+        ensures workers { IfOk result (λ queue. queue.workers ≡ workers) }
     {
         let (queue, pass) = SharedQueue::new(alloc)?;
         let queue = Arc::new(alloc, queue)?;
@@ -102,6 +103,7 @@ impl<T: Task> Queue<T> {
         requires runnable { T.can_run item.runner }
         ensures put { OnOk result ((trials : List (Assigned T)) → HoldsQueue T.can_run self.old trials
             → HoldsQueue T.can_run self.new (trials ++ item ∷ [])) }
+        ensures workers { self.new.workers ≡ self.old.workers }
     {
         self.next.items.push(item)?;
         if self.next.len() < self.size {
@@ -117,6 +119,7 @@ impl<T: Task> Queue<T> {
         ensures put { OnOk result ((trials : List (Assigned T)) → IsFilling T.can_run self.old trials
             → HoldsQueue T.can_run self.new trials) }
         ensures empty { OnOk result (items_of self.new.next ≡ []) }
+        ensures workers { self.new.workers ≡ self.old.workers }
     {
         if self.next.len() == 0 {
             return Ok(());
@@ -142,6 +145,7 @@ pub(crate) fn prepare_queue_workers<T: Task, R: Wait>(
     requires held { (trials : List (Assigned T)) × HoldsQueue T.can_run queue trials }
     ensures inbox { IfOk result (λ made. board_of made.0 ≡ empty_board count (vec_len made.1.workers)) }
     ensures timed { IfOk result (λ made. is_timed made.0 ≡ timed) }
+    ensures workers { IfOk result (λ made. vec_len made.1.workers ≡ queue.workers) }
     ensures ready { IfOk result (λ made. (trials : List (Assigned T)) → length trials ≤ count
         → HoldsQueue T.can_run queue trials → AreReadyQueueWorkers made.1 trials) }
 {
@@ -224,6 +228,7 @@ pub(crate) fn start_queue_workers<T: Task + Send + 'static, R: Spawner + 'static
     requires ready { (trials : List (Assigned T)) × AreReadyQueueWorkers ready trials }
     ensures started { IfSome result (λ workers. (trials : List (Assigned T)) → AreReadyQueueWorkers ready trials
         → RunsQueue T.gives workers test_mode trials) }
+    ensures no_more { IfSome result (λ workers. vec_len workers.handles ≤ vec_len ready.workers) }
 {
     let ReadyQueueWorkers {
         workers,

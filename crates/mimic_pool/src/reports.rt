@@ -20,8 +20,8 @@ pub trait Reports {
     /// How many rows could not be reported.
     ghost refused_by: { Self → ℕ };
 
-    /// Whether it may have been handed these rows, one after another, reported or not.
-    ghost heard: { Self → List Placed → Type 0 };
+    /// Whether it may have been handed these rows, one after another, reported or not. If an `impl` says nothing, it may be any rows.
+    ghost heard: { Self → List Placed → Type 0 } = { λ _ _. Unit {0} };
 
     /// Reports one row, and counts it as reported, or with `Untold` as refused.
     fn tell(&mut self, place: usize, outcome: &Outcome) -> Result<(), Untold>
@@ -76,8 +76,6 @@ impl<'a, R: Clock> Reports for Unheard<'a, R> {
     ghost told_of = { λ reports. reports.counts.told };
 
     ghost refused_by = { λ reports. reports.counts.refusals };
-
-    ghost heard = { λ _ _. ⊤ };
 
     fn tell(&mut self, _place: usize, _outcome: &Outcome) -> Result<(), Untold> {
         self.counts.count(true)

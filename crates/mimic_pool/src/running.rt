@@ -71,7 +71,7 @@ impl RunningTrials {
         self.cells.as_slice()
     }
 
-    /// The cell of a thread that is about to run trials, which no other thread gets. `None` if all were given away.
+    /// The cell of a thread that is about to run trials. Each call returns another one, which is only tested, and `None` after the last.
     pub fn next_cell(&self) -> Option<&RunningCell> {
         self.cells.get(self.next_number())
     }

@@ -36,6 +36,7 @@ pub(crate) fn prepare_share_workers<T: Task>(
 ) -> Result<(Inbox, ReadyShareWorkers<T>), AllocError>
     ensures inbox { IfOk result (λ made. board_of made.0 ≡ empty_board count (vec_len made.1.workers)) }
     ensures timed { IfOk result (λ made. is_timed made.0 ≡ timed) }
+    ensures workers { IfOk result (λ made. vec_len made.1.workers ≡ vec_len shares) }
     ensures ready { IfOk result (λ made. (trials : List (Assigned T)) → AreDealt T.can_run shares.items trials
         → AreDealt T.can_run (shares_of made.1.workers.items) trials) }
 {
@@ -61,6 +62,7 @@ pub(crate) fn start_share_workers<T: Task + Send + 'static, R: Spawner + 'static
     requires ready { (trials : List (Assigned T)) × AreDealt T.can_run (shares_of ready.workers.items) trials }
     ensures started { IfSome result (λ workers. (trials : List (Assigned T))
         → AreDealt T.can_run (shares_of ready.workers.items) trials → RunsShares workers test_mode trials) }
+    ensures each { IfSome result (λ workers. vec_len workers.handles ≡ vec_len ready.workers) }
 {
     let ReadyShareWorkers {
         workers,
@@ -94,6 +96,7 @@ pub(crate) fn join_share_workers<T: Task + Send + 'static, R: Threads>(
     requires running { (mode : Bool) × (trials : List (Assigned T)) × RunsShares workers mode trials }
     ensures joined { (mode : Bool) (trials : List (Assigned T)) → RunsShares workers mode trials
         → AreJoined T.gives mode trials true (map rows_in result.items) }
+    ensures workers { vec_len result ≡ vec_len workers.handles }
     ensures shares { (mode : Bool) (runners : List T) (flags : List Bool) → RunsShares workers mode (assigned_from 0 runners flags)
         → AreOfShares T.gives mode (assigned_from 0 runners flags) (map rows_in result.items) }
 {
@@ -115,6 +118,7 @@ fn workers_for_shares<T: Task>(
 ) -> Result<Vec<ReadyShareWorker<T>>, AllocError>
     requires workers { (board_of inbox.now).workers ≡ vec_len shares }
     ensures shares { IfOk result (λ ready. shares_of ready.items ≡ shares.items) }
+    ensures len { IfOk result (λ ready. vec_len ready ≡ vec_len shares) }
 {
     let mut ready = Vec::with_capacity(alloc, shares.len())?;
     for share in shares {

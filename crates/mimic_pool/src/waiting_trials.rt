@@ -1,5 +1,5 @@
 //! How trials get to workers.
-ghost use Rattle.std.specs.Prelude.{◌≡◌, ◌++◌, ◌∷◌, ◌≤◌, ◌||◌, [], Bool, IfOk, IfSome, List, OnOk, length, map, min, true};
+ghost use Rattle.std.specs.Prelude.{◌≡◌, ◌++◌, ◌∷◌, ◌≤◌, ◌||◌, [], Bool, IfOk, IfSome, List, OnOk, length, map, min, true, vec_len};
 ghost use Rattle.mimic_trial.specs.declared.outcome.Outcome.{Outcome as AnOutcome};
 ghost use Rattle.mimic_pool.specs.Board.{empty_board};
 ghost use Rattle.mimic_pool.specs.Inbox.{board_of, is_timed};
@@ -7,7 +7,7 @@ ghost use Rattle.mimic_pool.specs.Joined.{AreJoined, AreOutcomes, HavePlaces, pu
 ghost use Rattle.mimic_pool.specs.Rows.{rows_in};
 ghost use Rattle.mimic_pool.specs.Share.{assigned_from};
 ghost use Rattle.mimic_pool.specs.Shares.{AreOfShares};
-ghost use Rattle.mimic_pool.specs.WaitingTrials.{AreReady, Holds, OnShares, Runs, runs_all, workers_of};
+ghost use Rattle.mimic_pool.specs.WaitingTrials.{AreReady, awaited, Holds, OnShares, Runs, runs_all, started_in, workers_of};
 ghost use Rattle.mimic_pool.specs.declared.share.Assigned.{Assigned};
 
 use crate::inbox::Inbox;
@@ -78,7 +78,8 @@ impl<T: Task> WaitingTrials<T> {
         workers: usize,
     ) -> Result<WaitingTrials<T>, AllocError>
         requires some_worker { 1 ≤ workers }
-        ensures { IfOk result (λ waiting. Holds T.can_run waiting []) }
+        ensures empty { IfOk result (λ waiting. Holds T.can_run waiting []) }
+        ensures workers { IfOk result (λ waiting. awaited waiting ≡ workers) }
     {
         match schedule {
             Schedule::Shares => Ok(WaitingTrials::Shares(empty_shares(alloc, trials, workers)?)),
@@ -99,6 +100,7 @@ impl<T: Task> WaitingTrials<T> {
         requires runnable { T.can_run runner }
         ensures put { OnOk result ((trials : List (Assigned T)) → Holds T.can_run self.old trials
             → Holds T.can_run self.new (trials ++ record { place = place; runner = runner; ignored = ignored } ∷ [])) }
+        ensures workers { awaited self.new ≡ awaited self.old }
     {
         match self {
             WaitingTrials::Shares(shares) => deal_next(shares, place, runner, ignored),
@@ -113,7 +115,7 @@ impl<T: Task> WaitingTrials<T> {
         }
     }
 
-    /// Makes the workers ready to run the trials, of which there are `count`, and an inbox to which they, and no others, will
+    /// Makes the workers ready to run the trials, of which there are `count`, and the inbox to which they will
     /// report. If `timed`, they note there how long each trial runs. In `running` they mark which ones run, if anybody looks.
     pub fn prepare<R: Wait>(
         self,
@@ -126,6 +128,7 @@ impl<T: Task> WaitingTrials<T> {
         requires held { (trials : List (Assigned T)) × Holds T.can_run self trials }
         ensures inbox { IfOk result (λ made. board_of made.0 ≡ empty_board count (workers_of made.1)) }
         ensures timed { IfOk result (λ made. is_timed made.0 ≡ timed) }
+        ensures workers { IfOk result (λ made. workers_of made.1 ≡ awaited self) }
         ensures ready { IfOk result (λ made. (trials : List (Assigned T)) → length trials ≤ count
             → Holds T.can_run self trials → AreReady T.can_run made.1 trials) }
     {
@@ -156,6 +159,8 @@ pub fn start_workers<T: Task + Send + 'static, R: Spawner + 'static>(
     requires ready { (trials : List (Assigned T)) × AreReady T.can_run ready trials }
     ensures started { IfSome result (λ workers. (trials : List (Assigned T)) → AreReady T.can_run ready trials
         → Runs T.gives workers test_mode trials) }
+    ensures each { IfSome result (λ workers. OnShares workers (started_in workers ≡ workers_of ready)) }
+    ensures no_more { IfSome result (λ workers. started_in workers ≤ workers_of ready) }
 {
     match ready {
         ReadyWorkers::Shares(ready) => {
@@ -180,6 +185,7 @@ pub fn join_workers<T: Task + Send + 'static, R: Spawner>(
     requires running { (mode : Bool) × (trials : List (Assigned T)) × Runs T.gives workers mode trials }
     ensures joined { (mode : Bool) (trials : List (Assigned T)) → Runs T.gives workers mode trials
         → AreJoined T.gives mode trials (runs_all workers || whole) (map rows_in result.items) }
+    ensures workers { OnShares workers (vec_len result ≡ started_in workers) }
     ensures places { (mode : Bool) (runners : List T) (flags : List Bool)
         → Runs T.gives workers mode (assigned_from 0 runners flags)
         → HavePlaces (runs_all workers || whole) (length (assigned_from 0 runners flags)) (map rows_in result.items) }

@@ -3,7 +3,7 @@ use Rattle.std.proofs.Common.{◌≡◌, [], ◌++◌, Option, append_assoc, ℕ
 use Rattle.std.specs.Prelude.{codes, decimal}
 use Rattle.mimic_trial.specs.declared.outcome.Outcome.{Outcome}
 use Rattle.mimic_trial.specs.declared.outcome.Outcome.TheVariants.{Measured}
-use Rattle.mimic_trial.specs.declared.outcome.measurement.Measurement.{Measurement}
+use Rattle.mimic_trial.specs.declared.outcome.Measurement.{Measurement}
 use Rattle.mimic_printer.specs.declared.Printer.{Printer}
 use Rattle.mimic_printer.specs.Report.{colour_start, colour_end, outcome_line, time_mark, untimed_line}
 use Rattle.mimic_trial.specs.Text.{grouped, right_aligned}

@@ -4,7 +4,7 @@ use Rattle.std.specs.Prelude.{◌≡◌, ◌≢◌, ℕ, ◌<◌, ◌^◌, Bool,
 use Rattle.std.specs.List.{AllByRecursion, concat, flat_map}
 use Rattle.mimic_trial.specs.declared.outcome.Outcome.{Outcome}
 use Rattle.mimic_trial.specs.declared.outcome.Outcome.TheVariants.{Passed, Failed, Ignored, Measured}
-use Rattle.mimic_trial.specs.declared.outcome.conclusion.Conclusion.{Conclusion}
+use Rattle.mimic_trial.specs.declared.outcome.Conclusion.{Conclusion}
 use Rattle.mimic_trial.specs.Count.{counts_of, is_measured}
 use Rattle.mimic_trial.specs.Escape.{escaped}
 use Rattle.mimic_trial.specs.Promise.{FitsTypes}

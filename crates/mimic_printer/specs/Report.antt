@@ -6,7 +6,7 @@ use Rattle.mimic_trial.specs.declared.formats.FormatSetting.TheVariants.{Pretty,
 use Rattle.mimic_printer.specs.declared.Printer.{Printer}
 use Rattle.mimic_trial.specs.declared.outcome.Outcome.{Outcome}
 use Rattle.mimic_trial.specs.declared.outcome.Outcome.TheVariants.{Passed, Failed, Ignored, Measured}
-use Rattle.mimic_trial.specs.declared.outcome.conclusion.Conclusion.{Conclusion}
+use Rattle.mimic_trial.specs.declared.outcome.Conclusion.{Conclusion}
 use Rattle.mimic_trial.specs.Text.{padded, right_aligned, kind_part, grouped, nearest_hundredths, two_digits}
 use Rattle.mimic_printer.specs.Json.{json_announcement, json_outcome, json_summary, json_title}
 use Rattle.mimic_printer.specs.Row.{Label, PrintedRow, outcomes_of}

@@ -209,8 +209,8 @@ impl Piece<'_> {
     ghost use Rattle.mimic_printer.specs.Sink.{Adds};
     ghost use Rattle.mimic_printer.specs.Piece.{piece_text};
 
-    // Writes the piece after the first `len` bytes of the row, and returns where it ends. `None` if it doesn't fit,
-    // or is a long run of spaces, an aligned number, a text with escapes or a kind in brackets.
+    // Writes the piece after the first `len` bytes of the row, and returns where it ends. `None` if it doesn't fit, or if it is of a
+    // sort that only `add` writes.
     fn write(self, row: &mut [u8; ROW], len: usize) -> Option<usize>
         requires { len ≤ 256 }
         ensures { IfSome result

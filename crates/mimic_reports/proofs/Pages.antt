@@ -13,7 +13,7 @@ use Rattle.mimic_reports.specs.declared.page.PageContents.{PageContents}
 use Rattle.mimic_reports.specs.declared.page.Group.{Group}
 use Rattle.mimic_reports.specs.declared.page.Group.TheVariants.{Failed, Measured, Others}
 use Rattle.mimic_trial.specs.Count.{counts_of}
-use Rattle.mimic_trial.specs.declared.outcome.conclusion.Conclusion.{Conclusion}
+use Rattle.mimic_trial.specs.declared.outcome.Conclusion.{Conclusion}
 use Rattle.std.specs.List.{flat_map}
 use Rattle.std.specs.Prelude.{string_bytes}
 use Rattle.std.proofs.lemmas.Simd.{map-map}

@@ -7,7 +7,7 @@ use Rattle.std.specs.List.{flat_map}
 use Rattle.mimic_trial.specs.declared.formats.FormatSetting.{FormatSetting}
 use Rattle.mimic_trial.specs.declared.formats.FormatSetting.TheVariants.{Pretty, Terse, Json}
 use Rattle.mimic_trial.specs.Count.{counts_of}
-use Rattle.mimic_trial.specs.declared.outcome.conclusion.Conclusion.{Conclusion}
+use Rattle.mimic_trial.specs.declared.outcome.Conclusion.{Conclusion}
 use Rattle.mimic_trial.specs.declared.trial.TestInfo.{TestInfo}
 use Rattle.mimic_printer.specs.declared.Printer.{Printer}
 use Rattle.mimic_printer.specs.Report.{failures_if_any, failures_in, failures_text, report_text, row_text, summary_text, title_text}

@@ -4,8 +4,8 @@ use Rattle.std.specs.List.{concat, flat_map, list_any, sum_by}
 use Rattle.mimic_trial.specs.Text.{grouped}
 use Rattle.mimic_trial.specs.declared.outcome.Outcome.{Outcome}
 use Rattle.mimic_trial.specs.declared.outcome.Outcome.TheVariants as outcome
-use Rattle.mimic_trial.specs.declared.outcome.conclusion.Conclusion.{Conclusion}
-use Rattle.mimic_trial.specs.declared.outcome.measurement.Measurement.{Measurement}
+use Rattle.mimic_trial.specs.declared.outcome.Conclusion.{Conclusion}
+use Rattle.mimic_trial.specs.declared.outcome.Measurement.{Measurement}
 use Rattle.mimic_trial.specs.Count.{counts_of, is_failed, is_measured}
 use Rattle.mimic_printer.specs.Json.{Entry, outcomes_in}
 use Rattle.mimic_events.specs.Contents.{entry_read}

@@ -16,7 +16,7 @@ pub(crate) fn add_cut<W: Write>(sink: &mut Sink<W>, place: Place, ended: u128, s
 }
 
 /// Adds which trial was running when the report was cut, as a part of a line: `; running: [kind] name`, with both as they are in the
-/// place. Nothing is added if the report's last ended line isn't an announcement.
+/// place. Nothing is added if no trial was running there.
 pub fn add_running<W: Write>(sink: &mut Sink<W>, place: Place, stop: &Stop)
     ensures { Adds W.contents sink.old sink.new (running_part place stop.now.running) }
 {

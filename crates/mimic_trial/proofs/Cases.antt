@@ -5,7 +5,7 @@ use Rattle.std.proofs.lemmas.List.Elements.{All-push}
 use Rattle.std.specs.Prelude.{All, map}
 use Rattle.mimic_trial.specs.Case.{AreTestsOf, IsPlainTest}
 use Rattle.mimic_trial.specs.Trial.{info_of, runner_of}
-use Rattle.mimic_trial.specs.declared.case.Case.{Case}
+use Rattle.mimic_trial.specs.declared.task.Case.{Case}
 use Rattle.mimic_trial.specs.declared.trial.Trial.{Trial}
 
 -- one more case, and the test of it

@@ -1,21 +1,19 @@
 -- Lemmas on counts of outcomes.
 use Rattle.std.proofs.Common.{◌≡◌, ℕ, ◌+◌, ◌-◌, ◌^◌, ◌<◌, List, [], ◌∷◌, ◌++◌, Bool, true, false, cond, length, take, get_or, refl, sym, ap, ◌∙◌, arith, add-zero}
-use Rattle.std.proofs.lemmas.List.{take_more, length-take}
+use Rattle.std.proofs.lemmas.List.{take_more}
 use Rattle.std.proofs.lemmas.List.Sums.{count_by-le-length, sum_by_push}
 use Rattle.std.specs.Prelude.{count_by}
 use Rattle.mimic_trial.specs.declared.outcome.Outcome.{Outcome}
 use Rattle.mimic_trial.specs.declared.outcome.Outcome.TheVariants.{Passed, Failed, Ignored, Measured}
 use Rattle.mimic_trial.specs.Count.{counts_of, is_passed, is_failed, is_ignored_outcome, is_measured}
-use Rattle.mimic_trial.specs.Count.{counted, HasRoom}
+use Rattle.mimic_trial.specs.Count.{CanCount, counted}
 
 -- fewer outcomes than the greatest number leave room for one more
-pub HasRoom-counts : (os : List Outcome) (filtered_out : ℕ) → length os < 2 ^ 64 - 1 → HasRoom (counts_of os filtered_out)
-HasRoom-counts os filtered_out h = record {
-  passed = omega (arith, count_by-le-length is_passed os);
-  failed = omega (arith, count_by-le-length is_failed os);
-  ignored = omega (arith, count_by-le-length is_ignored_outcome os);
-  measured = omega (arith, count_by-le-length is_measured os);
-}
+pub can_count : (os : List Outcome) (filtered_out : ℕ) (o : Outcome) → length os < 2 ^ 64 - 1 → CanCount (counts_of os filtered_out) o
+can_count os n Passed h = omega (arith, count_by-le-length is_passed os)
+can_count os n (Failed f) h = omega (arith, count_by-le-length is_failed os)
+can_count os n Ignored h = omega (arith, count_by-le-length is_ignored_outcome os)
+can_count os n (Measured m) h = omega (arith, count_by-le-length is_measured os)
 
 -- one more that is counted, or isn't
 yes : {X : Type 0} (p : X → Bool) (xs : List X) (x : X) → p x ≡ true → count_by p (xs ++ x ∷ []) ≡ count_by p xs + 1
@@ -36,7 +34,3 @@ pub counts-more : (os : List Outcome) (i : ℕ) (o : Outcome) (filtered_out : �
     → counts_of (take (i + 1) os) filtered_out ≡ counted (counts_of (take i os) filtered_out) o
 counts-more os i o n h e =
     ap (λ l. counts_of l n) (take_more os i o h ∙ ap (λ x. take i os ++ x ∷ []) (sym e)) ∙ counts-push (take i os) o n
-
--- there is room for one more before the last
-pub HasRoom-take : (os : List Outcome) (i filtered_out : ℕ) → i < length os → length os < 2 ^ 64 → HasRoom (counts_of (take i os) filtered_out)
-HasRoom-take os i n h small = HasRoom-counts (take i os) n (omega (arith, length-take i os))

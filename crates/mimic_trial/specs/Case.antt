@@ -2,7 +2,7 @@
 use Rattle.std.specs.Prelude.{◌≡◌, ℕ, [], All, List, Option, Result, false, map, string_bytes}
 use Rattle.mimic_trial.specs.Promise.{Gives, outcome_of_test}
 use Rattle.mimic_trial.specs.Trial.{info_of, runner_of}
-use Rattle.mimic_trial.specs.declared.case.Case.{Case}
+use Rattle.mimic_trial.specs.declared.task.Case.{Case}
 use Rattle.mimic_trial.specs.declared.trial.Trial.{Trial}
 
 -- a test without a kind and without the ignored flag

@@ -2,7 +2,7 @@
 use Rattle.std.specs.Prelude.{◌<◌, ℕ, ◌+◌, ◌-◌, ◌^◌, Bool, true, false, List, count_by}
 use Rattle.mimic_trial.specs.declared.outcome.Outcome.{Outcome}
 use Rattle.mimic_trial.specs.declared.outcome.Outcome.TheVariants.{Passed, Failed, Ignored, Measured}
-use Rattle.mimic_trial.specs.declared.outcome.conclusion.Conclusion.{Conclusion}
+use Rattle.mimic_trial.specs.declared.outcome.Conclusion.{Conclusion}
 
 abbrev pub is_passed : Outcome → Bool
 is_passed Passed = true
@@ -41,9 +41,13 @@ counted c (Failed f) = record c { num_failed = c.num_failed + 1 }
 counted c Ignored = record c { num_ignored = c.num_ignored + 1 }
 counted c (Measured m) = record c { num_measured = c.num_measured + 1 }
 
--- one more outcome of any sort can be counted
-pub record HasRoom (c : Conclusion) : Type 0 where
-  pub passed : c.num_passed < 2 ^ 64 - 1
-  pub failed : c.num_failed < 2 ^ 64 - 1
-  pub ignored : c.num_ignored < 2 ^ 64 - 1
-  pub measured : c.num_measured < 2 ^ 64 - 1
+-- how many outcomes of the same sort were counted
+abbrev pub count_like : Conclusion → Outcome → ℕ
+count_like c Passed = c.num_passed
+count_like c (Failed f) = c.num_failed
+count_like c Ignored = c.num_ignored
+count_like c (Measured m) = c.num_measured
+
+-- one more such outcome can be counted
+abbrev pub CanCount : Conclusion → Outcome → Type 0
+CanCount c o = count_like c o < 2 ^ 64 - 1

@@ -5,7 +5,7 @@ use Rattle.mimic_trial.specs.declared.runner.TestRunner.{TestRunner}
 use Rattle.mimic_trial.specs.declared.runner.BenchRunner.{BenchRunner}
 use Rattle.mimic_trial.specs.declared.runner.Runner.{Runner}
 use Rattle.mimic_trial.specs.declared.runner.Runner.TheVariants.{Test, Bench}
-use Rattle.mimic_trial.specs.declared.outcome.measurement.Measurement.{Measurement}
+use Rattle.mimic_trial.specs.declared.outcome.Measurement.{Measurement}
 use Rattle.mimic_trial.specs.declared.outcome.Outcome.{Outcome}
 use Rattle.mimic_trial.specs.declared.outcome.Outcome.TheVariants.{Passed, Failed, Ignored, Measured}
 use Rattle.mimic_trial.specs.Failed.{not_measured_text}

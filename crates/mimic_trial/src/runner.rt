@@ -1,6 +1,6 @@
 //! What runs a trial: the caller's boxed closure, with the fact that it may be called.
+use crate::outcome::Measurement;
 use crate::outcome::failed::Failed;
-use crate::outcome::measurement::Measurement;
 
 /// The runner of a test. It can be called once.
 #[derive(Drop)]

@@ -1,8 +1,8 @@
 //! Tests and benchmarks.
 ghost use Rattle.std.specs.Prelude.{◌≡◌, ◌↔◌, string_bytes, [], true, false, not};
 
+use crate::outcome::Measurement;
 use crate::outcome::failed::Failed;
-use crate::outcome::measurement::Measurement;
 use crate::runner::{BenchRunner, Runner, TestRunner};
 use std::fmt;
 

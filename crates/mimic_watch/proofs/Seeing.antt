@@ -2,9 +2,9 @@
 use Rattle.std.proofs.Common.{◌≡◌, ℕ, ◌-◌, ◌<◌, ◌^◌, List, [], ◌∷◌, ◌++◌, length, length-append, refl, sym, ap, ◌∙◌, subst, arith, append_assoc, append-nil}
 use Rattle.std.specs.List.{flat_map}
 use Rattle.std.proofs.lemmas.List.{length-map, flat_map_more}
-use Rattle.mimic_trial.specs.declared.outcome.conclusion.Conclusion.{Conclusion}
-use Rattle.mimic_trial.specs.Count.{HasRoom, counted, counts_of}
-use Rattle.mimic_trial.proofs.Counting.{HasRoom-counts}
+use Rattle.mimic_trial.specs.declared.outcome.Conclusion.{Conclusion}
+use Rattle.mimic_trial.specs.Count.{CanCount, counted, counts_of}
+use Rattle.mimic_trial.proofs.Counting.{can_count}
 use Rattle.mimic_printer.specs.Json.{Entry, outcomes_in}
 use Rattle.mimic_events.specs.Contents.{entry_read}
 use Rattle.mimic_events.specs.Follower.{FollowsOn, FollowsRow, HasFollowed}
@@ -27,11 +27,11 @@ row_seen old new follower bytes front put waiting e on sees h =
     let more : all ++ e ∷ [] ≡ put ++ (waiting ++ e ∷ []) = append_assoc put waiting (e ∷ []) in
     let next : HasFollowed follower (bytes ++ front) (all ++ e ∷ []) = on bytes all h.followed in
     let room : length all < 2 ^ 64 - 1 = few (bytes ++ front) all e next.ended in
-    let one_more : HasRoom (counts_of (outcomes_in all) 0) = HasRoom-counts (outcomes_in all) 0 (omega (arith, room, length-map all (λ (x : Entry). x.outcome))) in
+    let one_more : CanCount (counts_of (outcomes_in all) 0) e.outcome = can_count (outcomes_in all) 0 e.outcome (omega (arith, room, length-map all (λ (x : Entry). x.outcome))) in
     record {
       followed = rw (sees.follower, ← more) next;
       ended = sees.ended (omega (arith, h.ended, room)) ∙ omega (arith, h.ended, ap length more, length-append all (e ∷ []));
-      counts = sees.counts (subst HasRoom (sym h.counts) one_more) ∙ ap (λ (c : Conclusion). counted c e.outcome) h.counts
+      counts = sees.counts (subst (λ (c : Conclusion). CanCount c e.outcome) (sym h.counts) one_more) ∙ ap (λ (c : Conclusion). counted c e.outcome) h.counts
           ∙ one_counted all e ∙ ap (λ (l : List Entry). counts_of (outcomes_in l) 0) more;
       shown = sees.shown ∙ ap (λ (l : List ℕ). l ++ row_text old.screen.colours e) h.shown
           ∙ flat_map_more (row_text old.screen.colours) [] waiting e

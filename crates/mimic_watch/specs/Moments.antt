@@ -36,8 +36,8 @@ pub record RunsAfter (entries : List Entry) (label : Label) (text : List ℕ) : 
   pub ended : AreEnded bytes entries
   pub shows : ShowsRunning label bytes
 
--- what is drawn says how many of these rows there are, how many failed, and how many the input's title announces, once that has come.
--- The second line names no trial, or the one that runs.
+-- what is drawn says how many of these rows there are and how many failed; if it says how many there will be, the input's title
+-- announces them. The second line names no trial, or the one that runs.
 pub record IsDrawing (start : Option (List ℕ)) (screen : Screen) (entries : List Entry) (drawn : List ℕ) : Type 0 where
   pub view : View
   pub running : Option Label

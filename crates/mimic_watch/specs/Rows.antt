@@ -4,7 +4,7 @@ use Rattle.std.specs.List.{flat_map}
 use Rattle.std.specs.Str.Lines.{lines}
 use Rattle.mimic_trial.specs.declared.outcome.Outcome.{Outcome}
 use Rattle.mimic_trial.specs.declared.outcome.Outcome.TheVariants.{Passed, Failed, Ignored, Measured}
-use Rattle.mimic_trial.specs.declared.outcome.measurement.Measurement.{Measurement}
+use Rattle.mimic_trial.specs.declared.outcome.Measurement.{Measurement}
 use Rattle.mimic_trial.specs.Text.{grouped}
 use Rattle.mimic_trial.specs.declared.formats.FormatSetting.TheVariants.{Pretty}
 use Rattle.mimic_printer.specs.declared.Printer.{Printer}

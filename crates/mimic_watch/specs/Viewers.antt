@@ -2,7 +2,7 @@
 use Rattle.std.specs.Prelude.{◌≡◌, ℕ, ◌+◌, ◌-◌, ◌<◌, ◌^◌, Bool, true, if◌then◌else◌, List, [], ◌++◌, length, Option}
 use Rattle.std.specs.Io.KnownBytes.{Consumes}
 use Rattle.std.specs.List.{flat_map}
-use Rattle.mimic_trial.specs.Count.{HasRoom, counted, counts_of}
+use Rattle.mimic_trial.specs.Count.{CanCount, counted, counts_of}
 use Rattle.mimic_printer.specs.Json.{Entry, outcomes_in}
 use Rattle.mimic_printer.specs.Sink.{HasFaultLeft}
 use Rattle.mimic_printer.specs.declared.sink.Sink.{Sink}
@@ -40,7 +40,7 @@ pub record SeesRow (old : Viewer) (entry : Entry) (new : Viewer) : Type 0 where
   pub follower : new.follower ≡ old.follower
   pub screen : new.screen ≡ old.screen
   pub ended : old.ended < 2 ^ 64 - 1 → new.ended ≡ old.ended + 1
-  pub counts : HasRoom old.counts → new.counts ≡ counted old.counts entry.outcome
+  pub counts : CanCount old.counts entry.outcome → new.counts ≡ counted old.counts entry.outcome
   pub shown : new.waiting.items ≡ old.waiting.items ++ row_text old.screen.colours entry
   pub failed : new.failed.items ≡ old.failed.items ++ failed_line entry.label entry.outcome
 

@@ -1,7 +1,7 @@
 -- What a watch has seen and put.
 use Rattle.std.specs.Prelude.{◌≡◌, ◌⊎◌, ℕ, ◌++◌, codes, nat_lt, if◌then◌else◌, Bool, List, [], Option, IfSome}
 use Rattle.std.specs.Io.KnownBytes.{Consumes}
-use Rattle.mimic_trial.specs.declared.outcome.conclusion.Conclusion.{Conclusion}
+use Rattle.mimic_trial.specs.declared.outcome.Conclusion.{Conclusion}
 use Rattle.mimic_trial.specs.Count.{counts_of}
 use Rattle.mimic_printer.specs.Json.{Entry, outcomes_in}
 use Rattle.mimic_printer.specs.Report.{result_summary}

@@ -3,7 +3,7 @@ ghost use Rattle.std.specs.Prelude.{◌≡◌, ◌<◌, ◌≤◌, All, drop, le
 ghost use Rattle.libtest_mimic.specs.Prelude.{AddsRows, AreArrived, AreTimed, is_timed, label_of, places_of, rows_at};
 ghost use Rattle.mimic_printer.specs.declared.sink.Sink.{Sink as TheSink};
 
-use crate::running::timing::time_shown;
+use crate::stopwatch::time_shown;
 use mimic_pool::{Arrival, Desk, Inbox};
 use mimic_printer::{Printer, Sink};
 use mimic_trial::{Outcome, TestInfo};

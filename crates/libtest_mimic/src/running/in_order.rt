@@ -2,14 +2,11 @@
 ghost use Rattle.std.specs.Prelude.{◌≡◌, [], vec_len};
 ghost use Rattle.libtest_mimic.specs.Prelude.{AllCanRun, HasCounted, HasFaultLeft, HasRoomFor, IsRunning, OnNothingWritten, Reports, RowsRun, selected_suite, shown};
 
-use crate::request::Request;
+use crate::request::{Request, Selection};
 use crate::running::RunError;
-use crate::running::summary::add_summary;
-use crate::running::tally::Tally;
-use crate::running::timing::{elapsed, start, time_shown};
+use crate::running::tally::{Tally, add_summary};
 use crate::select::is_ignored;
-use crate::selection::Selection;
-use crate::stopwatch::{Clock, Stopwatch};
+use crate::stopwatch::{Clock, Stopwatch, elapsed, start, time_shown};
 use mimic_pool::{RunningCell, RunningTrials};
 use mimic_printer::{Printer, Sink};
 use mimic_trial::{Conclusion, Task, run_unless};

@@ -1,21 +1,19 @@
 //! Runs trials in worker threads.
-ghost use Rattle.std.specs.Prelude.{◌≡◌, ◌≢◌, ◌≤◌, [], Bool, IfOk, List, MatchResult, length};
-ghost use Rattle.libtest_mimic.specs.Prelude.{AllCanRun, AreSupplied, assigned_from, HasFaultLeft, Holds, IsGathered, IsRunning, OnNothingWritten, PutsTitled, Reports, RowsRefused, selected_suite, shown, threads_of};
+ghost use Rattle.std.specs.Prelude.{◌≡◌, ◌≢◌, ◌≤◌, [], Bool, IfOk, List, MatchResult, length, map};
+ghost use Rattle.libtest_mimic.specs.Prelude.{AllCanRun, AreSupplied, assigned_from, awaited, HasFaultLeft, Holds, IsGathered, IsRunning, OnNothingWritten, PutsTitled, Reports, RowsRefused, selected_suite, shown, threads_of, counts_of};
 
-use crate::request::Request;
+use crate::request::{Request, Selection};
 use crate::running::RunError;
-use crate::running::desk_rows::{DeskRows, count_outcomes};
 use crate::running::gathering::{Started, gather_rows};
-use crate::running::summary::add_summary;
+use crate::running::tally::add_summary;
 use crate::select::is_ignored;
-use crate::selection::Selection;
 use crate::stopwatch::{Clock, Stopwatch};
 use mimic_args::Arguments;
 use mimic_pool::{
     Desk, Remaining, RunningTrials, Spawner, WaitingTrials, start_workers, worker_count,
 };
-use mimic_printer::{Printer, Sink};
-use mimic_trial::{Conclusion, Task, TestInfo, Trial};
+use mimic_printer::{Printer, ShownRows, Sink};
+use mimic_trial::{Conclusion, Outcome, Task, TestInfo, Trial};
 use std::alloc::{AllocError, Global};
 use std::io::Write;
 use std::sync::{Arc, Wait};
@@ -89,8 +87,9 @@ fn take_apart<R: Task, T: Wait>(
 ) -> Result<(Vec<TestInfo>, WaitingTrials<R>), AllocError>
     requires empty { Holds R.can_run waiting [] }
     requires runnable { AllCanRun R.can_run trials.items }
-    ensures { IfOk result
+    ensures supplied { IfOk result
         (λ parts. AreSupplied R.can_run args.now trials.items parts.0.items parts.1) }
+    ensures workers { IfOk result (λ parts. awaited parts.1 ≡ awaited waiting) }
 {
     let mut waiting = waiting;
     let mut infos = Vec::with_capacity(alloc, trials.len())?;
@@ -116,6 +115,7 @@ fn write_rows<R: Task + Send + 'static, W: Write, T: Spawner + 'static>(
     sink: &mut Sink<W>,
 ) -> Result<Desk, RunError>
     requires room { HasFaultLeft sink.old }
+    requires few { awaited supplied.waiting ≤ length infos.now }
     requires held { (runners : List R) × (flags : List Bool) × (length runners ≡ length infos.now)
         × (length flags ≡ length infos.now) × Holds R.can_run supplied.waiting (assigned_from 0 runners flags) }
     ensures rows { (runners : List R) (flags : List Bool) → length runners ≡ length infos.now
@@ -149,4 +149,42 @@ fn write_rows<R: Task + Send + 'static, W: Write, T: Spawner + 'static>(
         room,
     };
     gather_rows(rt, printer, infos, started, sink)
+}
+
+// The rows that arrived at the desk. Infos are by place.
+#[derive(Clone, Copy)]
+struct DeskRows<'a> {
+    infos: &'a [TestInfo],
+    desk: &'a Desk,
+}
+
+impl<'a> ShownRows for DeskRows<'a> {
+    ghost use Rattle.std.specs.Prelude.{◌<◌, All, length, map};
+    ghost use Rattle.libtest_mimic.specs.Prelude.{label_of, places_of, rows_at};
+
+    // Each place has an info.
+    ghost can_show = { λ rows. All (λ place. place < length rows.infos.now) (places_of rows.desk.now.rows) };
+
+    ghost rows_of = { λ rows. rows_at (map label_of rows.infos.now) rows.desk.now.rows };
+
+    fn len(&self) -> usize {
+        self.desk.order().len()
+    }
+
+    fn row(&self, number: usize) -> (&TestInfo, &Outcome) {
+        let (place, outcome) = self.desk.row(number);
+        (&self.infos[place], outcome)
+    }
+}
+
+// Counts the outcomes that arrived at the desk, and takes the number of trials that were filtered out as it is.
+fn count_outcomes(desk: &Desk, filtered_out: u64) -> Conclusion
+    ensures { result ≡ counts_of (map (λ row. row.1) desk.now.rows) filtered_out }
+{
+    let mut conclusion = Conclusion::empty(filtered_out);
+    for number in 0..desk.order().len() {
+        let (_, outcome) = desk.row(number);
+        conclusion.count(outcome);
+    }
+    conclusion
 }

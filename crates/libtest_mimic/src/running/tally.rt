@@ -1,7 +1,8 @@
 //! What a run keeps of the trials that ran: their counts, and those that failed.
 ghost use Rattle.std.specs.Prelude.{ℕ, ◌≡◌, ◌+◌, ◌∷◌, ◌++◌, [], IfOk, IsOk, List, vec_len};
-ghost use Rattle.libtest_mimic.specs.Prelude.{Adds, failures_text};
+ghost use Rattle.libtest_mimic.specs.Prelude.{Adds, failures_text, AddsSummary, IsRunning};
 
+use crate::stopwatch::{Clock, Stopwatch};
 use mimic_printer::{Printer, Sink};
 use mimic_trial::{Conclusion, Outcome, TestInfo};
 use std::alloc::{AllocError, Global};
@@ -16,7 +17,7 @@ pub(crate) struct Tally {
 }
 
 impl Tally {
-    ghost use Rattle.libtest_mimic.specs.Prelude.{HasCounted, HasRoom, HasRoomFor, PrintedRow, row_of};
+    ghost use Rattle.libtest_mimic.specs.Prelude.{CanCount, HasCounted, HasRoomFor, PrintedRow, row_of};
 
     // Nothing is counted yet, and there is room for `trials` failures.
     pub(crate) fn with_capacity(
@@ -36,7 +37,7 @@ impl Tally {
 
     // Counts the outcome, and keeps both if the trial failed.
     pub(crate) fn record(&mut self, info: TestInfo, outcome: Outcome)
-        requires counts { HasRoom self.old.conclusion }
+        requires counts { CanCount self.old.conclusion outcome }
         requires room { HasRoomFor self.old (vec_len self.old.failures + 1) }
         ensures counted { (filtered_out : ℕ) (rows : List PrintedRow)
             → HasCounted self.old filtered_out rows
@@ -72,4 +73,20 @@ impl Tally {
         let Tally { conclusion, .. } = self;
         conclusion
     }
+}
+
+// Stops the watch, and directly after that adds the summary with its time. A flush ends the report.
+pub(super) fn add_summary<W: Write, C: Clock>(
+    printer: &Printer,
+    conclusion: &Conclusion,
+    sink: &mut Sink<W>,
+    watch: &mut Stopwatch<C>,
+)
+    requires { IsRunning watch.old }
+    ensures { AddsSummary W.contents printer.now conclusion.now sink.old sink.new watch.new }
+{
+    watch.stop();
+    let nanos = watch.elapsed().unwrap_or(0);
+    printer.add_summary(sink, conclusion, nanos);
+    sink.add_flush();
 }

@@ -18,6 +18,7 @@ returns g c =
     record {
       inbox = c.in_ok-inbox.ensures.board ∙ ap (empty_board c.args.count) (sym workers.len);
       timed = c.in_ok-inbox.ensures.timed;
+      workers = workers.len ∙ c.in_ok-flush.ensures.workers;
       ready = λ trials fits held.
           let filling = (c.in_ok-flush.ensures.put trials held.filling).filling in
           record {

@@ -22,6 +22,7 @@ loop-worker-init g c =
       jobs = search rules;
       left = search rules;
       fits = search rules;
+      no_more = omega (arith, c.args.ready.workers.ok.0, c.into_iter-worker-iterator.ensures.into_iter_gives.1);
     }
 
 pub start_queue_worker-requires-clause-fresh : goal.start_queue_worker-requires-clause-fresh
@@ -42,6 +43,7 @@ loop-worker-preserved-in-Ok g c =
       jobs = with_one (IsJob q c.args.test_mode) c.in-Ok.handle c.loop-worker.handles.items c.push_reserved.new.self.items pushed.items was.jobs (subst (λ q. IsJob q c.args.test_mode c.in-Ok.handle) same c.in-Ok.ensures.started);
       left = rest_of (IsFresh q) c.in-Some.worker (into_iter_items c.next.new.self) (into_iter_items c.loop-worker.worker-iterator) next.0 was.left;
       fits = omega (arith, was.fits, pushed.len, pushed.capacity, next.1);
+      no_more = omega (arith, was.no_more, pushed.len, next.1);
     }
 
 pub absorb-requires : goal.absorb-requires
@@ -67,4 +69,5 @@ loop-worker-preserved g c =
       jobs = subst (λ q. All (IsJob q c.args.test_mode) c.loop-worker.handles.items) (sym c.absorb.ensures.queue) was.jobs;
       left = subst (λ q. All (IsFresh q) rest) (sym c.absorb.ensures.queue) (rest_of (IsFresh (arc_value c.loop-worker.ended.queue).queue) c.in-Some.worker rest (into_iter_items c.loop-worker.worker-iterator) next.0 was.left);
       fits = omega (arith, was.fits, next.1);
+      no_more = omega (arith, was.no_more, next.1);
     }

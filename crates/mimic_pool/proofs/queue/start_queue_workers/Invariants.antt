@@ -10,4 +10,5 @@ invariant-loop-worker g l = record {
   jobs : All (IsJob (arc_value l.ended.queue).queue l.test_mode) l.handles.items;
   left : All (IsFresh (arc_value l.ended.queue).queue) (into_iter_items l.worker-iterator);
   fits : vec_len l.handles + into_iter_len l.worker-iterator ≤ vec_capacity l.handles;
+  no_more : vec_len l.handles + into_iter_len l.worker-iterator ≤ vec_len l.fn.ready.workers;
 }

@@ -15,6 +15,7 @@ loop-handle-preserved g c =
     let rows : map rows_in c.push_reserved.new.self.items ≡ map rows_in c.loop-handle.joined.items ++ rows_in c.join.result ∷ [] = rw (pushed.items, map-append) in
     record {
       answered = job_answered g.T.Task.gives (map job_of c.args.workers.handles.items) (map job_of (into_iter_items c.loop-handle.handle-iterator)) (map job_of (into_iter_items c.next.new.self)) (map rows_in c.loop-handle.joined.items) (map rows_in c.push_reserved.new.self.items) (job_of c.in-Some.handle) (rows_in c.join.result) (rw next.0) rows c.join.ensures was.answered;
+      each = omega (arith, was.each, pushed.len, next.1);
       fits = omega (arith, was.fits, pushed.len, pushed.capacity, next.1);
     }
 
@@ -37,5 +38,6 @@ returns g c =
             };
             all = λ _. refl;
           };
+      workers = omega (arith, c.loop-handle.invariant.each, c.in-None.ensures.steps.0);
       shares = λ mode rs bs runs. of_shares g.T.Task.gives mode rs bs runs.shares joined runs.some runs.dealt (subst (λ jobs. AreAnswered g.T.Task.gives jobs joined) runs.started all);
     }

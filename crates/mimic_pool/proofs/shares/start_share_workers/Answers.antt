@@ -15,6 +15,7 @@ loop-worker-init g c =
       jobs = ap₂ (λ handles workers. map job_of handles ++ jobs_of c.args.test_mode (shares_of workers)) none gives.0;
       fits = omega (arith, ready.fits, ready.no_handles, gives.1);
       fits_joined = omega (arith, ready.fits_joined, ready.no_handles, gives.1);
+      each = omega (arith, ready.no_handles, gives.1);
       runnable = rw gives.0 (runnable_shares g.T.Task.can_run _ c.requires.ready.0 c.requires.ready.1);
     }
 
@@ -31,6 +32,7 @@ loop-worker-preserved g c =
       jobs = rw (pushed.items, map-append, append_assoc, job) jobs;
       fits = omega (arith, was.fits, pushed.len, next.1, pushed.capacity);
       fits_joined = omega (arith, was.fits_joined, pushed.len, next.1);
+      each = omega (arith, was.each, pushed.len, next.1);
       runnable = All-tail (λ share. AllRunners g.T.Task.can_run share) _ _ runnable;
     }
 
@@ -52,4 +54,5 @@ returns g c =
         dealt = ready.dealt;
         started = sym (append-nil (map job_of c.loop-worker.handles.items)) ∙ jobs;
       };
+      each = omega (arith, was.each, c.in-None.ensures.steps.0);
     }

@@ -8,5 +8,6 @@ invariant-loop-worker g l = record {
   jobs : map job_of l.handles.items ++ jobs_of l.test_mode (shares_of (into_iter_items l.worker-iterator)) ≡ jobs_of l.test_mode (shares_of l.fn.ready.workers.items);
   fits : vec_len l.handles + into_iter_len l.worker-iterator ≤ vec_capacity l.handles;
   fits_joined : vec_len l.handles + into_iter_len l.worker-iterator ≤ vec_capacity l.fn.ready.joined;
+  each : vec_len l.handles + into_iter_len l.worker-iterator ≡ vec_len l.fn.ready.workers;
   runnable : All (λ share. AllRunners g.T.Task.can_run share) (shares_of (into_iter_items l.worker-iterator));
 }

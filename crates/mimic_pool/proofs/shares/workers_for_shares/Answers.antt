@@ -9,5 +9,6 @@ loop-share-preserved g c =
     let pushed = c.push_reserved.ensures in
     record {
       shares = rw (pushed.items, map-append, append_assoc) shares;
+      len = omega (arith, c.loop-share.invariant.len, pushed.len, next.1);
       fits = omega (arith, c.loop-share.invariant.fits, pushed.len, next.1, pushed.capacity);
     }

@@ -10,6 +10,7 @@ returns-in-Shares g c =
     rw c.in-Shares.is (record {
       joined = c.join_share_workers.ensures.joined;
       places = λ mode rs bs runs. have_places g.T.Task.gives mode rs bs true joined (c.join_share_workers.ensures.joined mode _ runs);
+      workers = c.join_share_workers.ensures.workers;
       shares = c.join_share_workers.ensures.shares;
       outcomes = λ mode rs bs runs all outcomes len. joined_whole g.T.Task.gives mode rs bs true joined (c.join_share_workers.ensures.joined mode _ runs) refl outcomes len;
     })
@@ -20,6 +21,7 @@ returns-in-Queue g c =
     rw c.in-Queue.is (record {
       joined = c.join_queue_workers.ensures.joined;
       places = λ mode rs bs runs. have_places g.T.Task.gives mode rs bs c.args.whole joined (c.join_queue_workers.ensures.joined mode _ runs);
+      workers = tt;
       shares = λ mode rs bs runs. tt;
       outcomes = λ mode rs bs runs all outcomes len. joined_whole g.T.Task.gives mode rs bs c.args.whole joined (c.join_queue_workers.ensures.joined mode _ runs) all outcomes len;
     })

@@ -1,5 +1,5 @@
 use Rattle.std.proofs.Common.{◌-◌, [], ap, ◌∙◌}
-use Rattle.mimic_trial.specs.declared.outcome.conclusion.Conclusion.{Conclusion}
+use Rattle.mimic_trial.specs.declared.outcome.Conclusion.{Conclusion}
 use Rattle.mimic_printer.proofs.Adding.{adds_nothing, adds_then}
 use Rattle.mimic_reports.proofs.Pages.{groups_are}
 use Rattle.mimic_reports.specs.Page.{bar_of}

@@ -3,7 +3,7 @@ use Rattle.std.proofs.lemmas.List.Elements.{All-nil}
 use Rattle.std.specs.Vec.Iter.{into_iter_items}
 use Rattle.libtest_mimic.specs.Prelude.{has_time, IsOwnAt, IsTime, label_of, labels_of, Outcome, runner_of, selected_suite, Suite}
 use Rattle.mimic_printer.proofs.Adding.{adds_nothing}
-use Rattle.libtest_mimic.proofs.RowsInOrder.{All-next, HasRoom-tally, HasRoomFor-tally, RowsSoFar-push, all_ran, count_rows, label_at-next, longer, ran-next, stopped_before}
+use Rattle.libtest_mimic.proofs.RowsInOrder.{All-next, can_count-tally, HasRoomFor-tally, RowsSoFar-push, all_ran, count_rows, label_at-next, longer, ran-next, stopped_before}
 use Rattle.libtest_mimic.proofs.running.in_order.run_rows.Goals.{in-None, in-Some+then-has_fault}
 use Rattle.libtest_mimic.proofs.running.in_order.run_rows.Goals as goal
 
@@ -55,7 +55,7 @@ pub record-requires-clause-counts : goal.record-requires-clause-counts
 record-requires-clause-counts g c =
     let so_far = c.loop-trial.invariant.so_far in
     let split = ap (λ l. c.loop-trial.yielded ++ l) (sym c.in-Some.ensures.steps.0) ∙ c.loop-trial.invariant.seen in
-    HasRoom-tally c.loop-trial.tally _ _ so_far.tally (omega (arith, count_rows (labels_of c.args.request.selection.trials.items) so_far.placed, so_far.all, longer c.loop-trial.yielded _ c.args.request.selection.trials.items c.in-Some.trial split, c.args.request.selection.trials.ok.0, c.args.request.selection.trials.small))
+    can_count-tally c.loop-trial.tally _ _ _ so_far.tally (omega (arith, count_rows (labels_of c.args.request.selection.trials.items) so_far.placed, so_far.all, longer c.loop-trial.yielded _ c.args.request.selection.trials.items c.in-Some.trial split, c.args.request.selection.trials.ok.0, c.args.request.selection.trials.small))
 
 pub record-requires-clause-room : goal.record-requires-clause-room
 record-requires-clause-room g c =

@@ -17,6 +17,7 @@ loop-trial-init g c = record {
     };
   };
   runnable = rw c.new-left.ensures c.requires.runnable;
+  workers = refl;
 }
 
 pub put-requires-clause-held : goal.put-requires-clause-held
@@ -36,7 +37,11 @@ loop-trial-preserved g c = record {
       c.in-Some.trial _ _ _ _ c.in-Some.ensures c.into_parts-info.ensures.info c.into_parts-info.ensures.runner c.is_ignored-is_ignored.ensures
       (c.len-in-Some.ensures ∙ c.loop-trial.infos.ok.0) c.in_ok-push.ensures.items c.in_ok-put.ensures.put c.loop-trial.invariant.supplied;
   runnable = All-rest (λ (trial : Trial _). g.R.Task.can_run (runner_of trial)) c.in-Some.trial c.next.new.self c.loop-trial.left c.in-Some.ensures c.loop-trial.invariant.runnable;
+  workers = c.in_ok-put.ensures.workers ∙ c.loop-trial.invariant.workers;
 }
 
 pub returns : goal.returns
-returns g c = put_all g.R.Task.can_run c.args.args.now _ _ c.args.trials.items c.loop-trial.left c.in_default.ensures.0 c.loop-trial.invariant.supplied
+returns g c = record {
+  supplied = put_all g.R.Task.can_run c.args.args.now _ _ c.args.trials.items c.loop-trial.left c.in_default.ensures.0 c.loop-trial.invariant.supplied;
+  workers = c.loop-trial.invariant.workers;
+}

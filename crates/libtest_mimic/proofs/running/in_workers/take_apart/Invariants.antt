@@ -1,5 +1,5 @@
-use Rattle.std.proofs.Common.{length}
-use Rattle.libtest_mimic.specs.Prelude.{AllCanRun}
+use Rattle.std.proofs.Common.{◌≡◌, length}
+use Rattle.libtest_mimic.specs.Prelude.{AllCanRun, awaited}
 use Rattle.libtest_mimic.proofs.Supplying.{IsPutSoFar}
 use Rattle.libtest_mimic.proofs.running.in_workers.take_apart.Given as goal
 
@@ -7,6 +7,7 @@ abbrev pub invariant-loop-trial : goal.invariant-loop-trial
 invariant-loop-trial g l = record {
   supplied : IsPutSoFar g.R.Task.can_run l.args l.fn.trials.items l.left l.infos.items l.waiting;
   runnable : AllCanRun g.R.Task.can_run l.left;
+  workers : awaited l.waiting ≡ awaited l.fn.waiting;
 }
 
 -- the trials that are left

@@ -1,6 +1,6 @@
 use Rattle.std.proofs.Common.{ap, inr}
 use Rattle.std.specs.Prelude.{option_map}
-use Rattle.mimic_trial.specs.declared.outcome.conclusion.Conclusion.{Conclusion}
+use Rattle.mimic_trial.specs.declared.outcome.Conclusion.{Conclusion}
 use Rattle.mimic_events.specs.Contents.{label_read}
 use Rattle.mimic_watch.proofs.Titles.{announced_by, running_in}
 use Rattle.mimic_watch.proofs.viewer.Viewer.drawing.Goals as goal
