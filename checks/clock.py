@@ -59,6 +59,8 @@ def one(took, *times):
     return report([("test_000000", *times)], took)
 
 
+# More trials than 16 bits count.
+MANY = 70_000
 TIMED_SUMS = report([("1 + 1", "0.003"), ("2 + 2", "0.007"), ("7 + 0", "0.011")], "0.049")
 # A program and its words, the status, what it prints, and the seconds that bench_suite prints of its run.
 KNOWN = [
@@ -104,6 +106,8 @@ THREADS = [
     ("bench_suite 9 json 4 slow_limit 60000", 6),
     ("bench_suite 3 json 99 dealt 1 slow_limit 60000", 7),
 ]
+# The same on a machine of so many processors, of a program whose workers are as many by default.
+ON_PROCESSORS = [("example_sorts", 1, 1), ("example_sorts", 2, 4)]
 # A user of whom no other program runs. Words of bench_suite, how many threads it may have at once beside its own, and whether slow
 # trials are looked for then: only if there is room for a worker beside that, or for all if each has a share.
 USER = 65_533
@@ -123,9 +127,11 @@ def check_known(shim, line, status, out, run):
     assert found[:2] == (status, out) and re.fullmatch(told, found[2]), f"{found!r} and not {(status, out, told)!r}"
 
 
-def check_threads(shim, line, count):
+def check_threads(shim, line, count, processors=None):
     reader, writer = os.pipe()
-    runner.ended(line, pass_fds=[writer], env={**os.environ, "LD_PRELOAD": shim, "THREADS": str(writer)})
+    given = sorted(os.sched_getaffinity(0))[:processors]
+    settings = {"pass_fds": [writer], "preexec_fn": lambda: os.sched_setaffinity(0, given)}
+    runner.ended(line, env={**os.environ, "LD_PRELOAD": shim, "THREADS": str(writer)}, **settings)
     os.close(writer)
     with os.fdopen(reader, "rb") as started:
         threads = len(started.read())
@@ -141,12 +147,12 @@ def check_no_thread(shim):
 
 def check_times(shim, threads, first):
     """Each of many trials, of which some fail, shows its own time. They run one after another, in one thread."""
-    line = f"bench_suite 300 json {threads} report_time 1 clock real fail_every 7".split()
+    line = f"bench_suite {MANY} json {threads} report_time 1 clock real fail_every 7".split()
     status, out, err = runner.ended(line, env={**os.environ, "LD_PRELOAD": shim, "MOST": "1"})
     rows = [json.loads(line) for line in out.splitlines()]
     times = {row["name"]: row["exec_time"] for row in rows if row["type"] == "test" and row["event"] != "started"}
-    wanted = {f"test_{place:06}": (first + 4 * place) / 1000 for place in range(300)}
-    assert status == 101 and times == wanted, f"{status} {err} {times}"
+    wanted = {f"test_{place:06}": (first + 4 * place) / 1000 for place in range(MANY)}
+    assert status == 101 and times == wanted, f"{status} {err} {len(times)}"
 
 
 def check_refused_worker(shim, words, most, status, rows, told, seconds):
@@ -184,9 +190,11 @@ def checks(shim):
         yield line, lambda line=line, rest=rest: check_known(shim, shlex.split(line), *rest)
     for line, count in THREADS:
         yield f"threads of {line}", lambda line=line, count=count: check_threads(shim, line.split(), count)
+    for line, processors, count in ON_PROCESSORS:
+        yield f"threads of {line} on {processors}", lambda row=(count, processors): check_threads(shim, [line], *row)
     # As in KNOWN, the first trial takes 9 ms. Between the readings before two trials are two, so each takes 4 ms more than the one before.
     for threads in (1, 2):
-        yield f"bench_suite 300 json {threads} with times", lambda threads=threads: check_times(shim, threads, 9)
+        yield f"bench_suite {MANY} json {threads} with times", lambda threads=threads: check_times(shim, threads, 9)
     yield "example_sums without a thread", lambda: check_no_thread(shim)
     # Only root runs a program as another user.
     for words, room, looks in ROOM if os.geteuid() == 0 else ():

@@ -24,6 +24,8 @@ MOST_BYTES = 32 << 20
 # A second thread's stack is 8 MB, and what an allocator reserves for it 64 MB more.
 MOST_OF_TWO = 128 << 20
 MANY = 110_000
+# More than any number in the code that could end a loop.
+STREAMED = 3_000_000
 # More than 16 bits count.
 CASES = 66_000
 
@@ -38,11 +40,15 @@ def rows(trials):
     return "".join(line.format(name, end) for name, end in trials)
 
 
+def summary(passed, failed):
+    counts = f'"passed": {passed}, "failed": {failed}, "ignored": 0, "measured": 0, "filtered_out": 0, "exec_time": 0'
+    return f'{{ "type": "suite", "event": "{"failed" if failed else "ok"}", {counts} }}\n'
+
+
 def report(trials):
     """Returns the report of these trials."""
     failed = sum(end.startswith('"failed"') for _, end in trials)
-    counts = f'"passed": {len(trials) - failed}, "failed": {failed}, "ignored": 0, "measured": 0, "filtered_out": 0, "exec_time": 0'
-    return title(len(trials)) + rows(trials) + f'{{ "type": "suite", "event": "{"failed" if failed else "ok"}", {counts} }}\n'
+    return title(len(trials)) + rows(trials) + summary(len(trials) - failed, failed)
 
 
 # A line, its status, and how often this text is in what is printed.
@@ -61,6 +67,13 @@ LARGE = [
     ("example_files pair -- --format json", 101, f"pair.out: line {CASES} differs", 1),
     ("conformance normalization lines -- --list", 0, ": test\n", CASES),
 ]
+# Calls that keep no row of those that passed, and the end of what they print of a report in which all passed.
+STREAMING = [
+    ("readreport", f"{STREAMED} trials: {STREAMED} passed; 0 failed; 0 ignored; 0 measured; 0 filtered out; 0 ns\n"),
+    ("reports known -", ""),
+    ("reports expect /dev/null -", "\n"),
+    ("reports watch", f"test result: ok. {STREAMED} passed; 0 failed; 0 ignored; 0 measured; 0 filtered out; finished in 0.00s\n\n"),
+]
 # Calls of reports that read standard input as a report, of which the last one stands for itself.
 READING = ["show -", "show --failed -", "junit -", "known -", "expect /dev/null -", "compare - none", "compare none -"]
 READING += ["page -", "slowest -", "join --shards 1 -", "join --cut --shards 1 -", "watch"]
@@ -76,6 +89,19 @@ def limited(most):
 def check_large(line, status, text, count):
     found = runner.ended(shlex.split(line))
     assert (found[0], found[1].count(text)) == (status, count), f"{found[0]}, {found[1].count(text)}, {found[2]}"
+
+
+def check_streamed(line, end):
+    """All rows of a long report are read."""
+    program, *words = line.split()
+    piece = rows(10_000 * [("a", '"ok", "exec_time": 1')]).encode()
+    with subprocess.Popen([runner.program(program), *words], stdin=subprocess.PIPE, stdout=subprocess.PIPE) as process:
+        process.stdin.write(title(STREAMED).encode())
+        for _ in range(STREAMED // 10_000):
+            process.stdin.write(piece)
+        process.stdin.write(summary(STREAMED, 0).encode())
+        out = process.communicate(timeout=60)[0].decode()
+    assert process.returncode == 0 and out.endswith(end), f"{process.returncode}, {out!r}"
 
 
 def check_no_report(text):
@@ -188,6 +214,8 @@ def checks():
     write_cases()
     for line, *rest in LARGE:
         yield line[:60], lambda line=line, rest=rest: check_large(line, *rest)
+    for line, end in STREAMING:
+        yield f"{line} of {STREAMED} rows", lambda line=line, end=end: check_streamed(line, end)
     for name, text in NO_REPORTS.items():
         yield f"readreport of {name}", lambda text=text: check_no_report(text)
     for words in READING:

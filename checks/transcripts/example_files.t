@@ -125,6 +125,12 @@ Folders in folders are kinds. Names are in order, and kinds behind the names of 
   [a/c] y: test
   [b] case: test
 
+Each folder is looked into, however deep it is, and however many there are.
+
+  $ below=many/below/$(seq -s / 40); mkdir -p "$below" many/{1..1000}; touch {"$below",many/{1..1000}}/case.{in,out}
+  $ example_files many -- --list | sort -u | wc -l
+  1001
+
 Names that are equal but for their kinds are no reason for a warning.
 
   $ mkdir -p twins/{a,b}; touch twins/{a,b}/case.{in,out}; run twins

@@ -1,6 +1,8 @@
 -- What an input gives that is to be one report.
-use Rattle.std.specs.Prelude.{◌≡◌, ℕ, ◌≤◌, List, length, take, Option, IfSome, ⊤}
+use Rattle.std.specs.Prelude.{◌≡◌, ◌≢◌, ℕ, ◌≤◌, List, length, take, Option, IfSome, ⊤}
 use Rattle.std.specs.Io.KnownBytes.{Consumes, IsAtEnd, Keeps}
+use Rattle.std.specs.IoError.{error_kind}
+use Rattle.std.specs.declared.io.ErrorKind.TheVariants as kind
 use Rattle.mimic_printer.specs.Json.{Contents}
 use Rattle.mimic_events.specs.Contents.{Spells, contents_read}
 use Rattle.mimic_events.specs.SoFar.{IsFirstWrong}
@@ -42,3 +44,8 @@ IsOfInput read.Cut = ⊥
 -- the fault is of the input or the memory, and nothing was read
 abbrev pub HasFailed : Option (List ℕ) → Option (List ℕ) → ReadFault → Type 0
 HasFailed before after fault = IsOfInput fault × Keeps before after
+
+-- the fault is no interruption, since a read that was interrupted is tried again
+abbrev pub IsNoInterruption : ReadFault → Type 0
+IsNoInterruption (read.Input error) = error_kind error ≢ kind.Interrupted
+IsNoInterruption fault = ⊤

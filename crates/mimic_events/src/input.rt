@@ -1,6 +1,6 @@
 //! Reads pieces of an input.
 ghost use Rattle.std.specs.Prelude.{◌≡◌, ◌<◌, IfErr, IfOk, length};
-ghost use Rattle.mimic_events.specs.Inputs.{HasFailed, IsPiece};
+ghost use Rattle.mimic_events.specs.Inputs.{HasFailed, IsNoInterruption, IsPiece};
 ghost use Rattle.mimic_events.specs.declared.input.ReadFault.TheVariants.{OutOfMemory};
 
 use std::alloc::{AllocError, AllocFailed};
@@ -20,6 +20,7 @@ pub fn read_piece<I: Read>(input: &mut I, room: &mut [u8]) -> Result<usize, Read
     ensures room { length room.new ≡ length room.old }
     ensures fault { IfErr result
         (HasFailed (I.remaining input.old) (I.remaining input.new)) }
+    ensures retried { IfErr result IsNoInterruption }
 {
     for _ in 0..u64::MAX {
         match input.read(room) {
@@ -31,7 +32,7 @@ pub fn read_piece<I: Read>(input: &mut I, room: &mut [u8]) -> Result<usize, Read
             },
         }
     }
-    Err(ReadFault::Input(ErrorKind::Interrupted.into()))
+    Err(ReadFault::Input(ErrorKind::Other.into()))
 }
 
 /// Why a reader gives no report, or no more of one. Its text is what a user is to see.

@@ -43,7 +43,7 @@ impl<I: Read + Drop> InputRows<I> {
     }
 
     /// Returns the next row, and `None` after the last one. A read that was interrupted is tried again. After any other error of the
-    /// reader, such as `WouldBlock`, the next call reads on.
+    /// reader that is no want of memory, such as `WouldBlock`, the next call reads on.
     pub fn next_row(&mut self) -> Result<Option<Row>, ReadFault>
         requires { IsReady self.old }
         ensures ready { OnOk result (IsReady self.new) }

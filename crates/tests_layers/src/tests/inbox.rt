@@ -204,7 +204,7 @@ impl<R> Clock for SquareClock<R> {
 // by 4p + 1.
 #[test]
 fn notes_times_of_many(rt: HostRuntime) -> Result<(), Fail> {
-    for places in [300, 3_000] {
+    for places in [300, 70_000] {
         let clock = SquareClock {
             rt,
             readings: Cell::new(0),
@@ -494,14 +494,15 @@ fn check_rows<R: Spawner + Abort + 'static>(
 
 static SCHEDULES: [Schedule; 2] = [Schedule::Shares, Schedule::Queue];
 
-// Two workers report as fast as they can.
+// Two workers report as fast as they can, and each row comes before the workers are joined, also of many trials.
 #[test]
 fn two_workers_lose_nothing(rt: HostRuntime) -> Result<(), Fail> {
-    for round in 0..200 {
+    for round in 0..202 {
+        let trials = if round < 200 { 600 } else { 70_000 };
         let asked = Asked {
             schedule: SCHEDULES[round % 2],
-            trials: 600,
-            step: 600,
+            trials,
+            step: trials,
         };
         check_rows(&rt, rt.alloc(), asked)?;
     }
