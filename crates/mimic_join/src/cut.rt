@@ -13,6 +13,7 @@ use mimic_printer::Sink;
 use mimic_printer::json::add_title;
 use mimic_trial::Conclusion;
 use std::alloc::{AllocError, Global};
+use std::hash::BuildHasher;
 use std::io::{Read, Write};
 
 /// What was joined.
@@ -33,8 +34,9 @@ pub enum Joined {
 ///
 /// A reader that fails counts as one without a title: the rows that it gave before are not written.
 #[tactic(auto, using(mimic_printer::proofs::Adding::puts_added))]
-pub fn join_cut_reports<I: Read + Drop, O: Write>(
+pub fn join_cut_reports<S: BuildHasher + Drop, I: Read + Drop, O: Write>(
     alloc: Global,
+    hash_builder: S,
     inputs: Vec<I>,
     shards: usize,
     equal_names: bool,
@@ -51,7 +53,7 @@ pub fn join_cut_reports<I: Read + Drop, O: Write>(
         return Ok(Joined::Cut(reads));
     }
     let reports = wholes_of(alloc, reads)?;
-    let counts = match add_joined(alloc, &reports, shards, equal_names, sink)? {
+    let counts = match add_joined(alloc, hash_builder, &reports, shards, equal_names, sink)? {
         Ok(counts) => counts,
         Err(refusal) => return Err(JoinFault::Refused(refusal)),
     };

@@ -13,14 +13,16 @@ use mimic_printer::Sink;
 use mimic_printer::json::{add_summary, add_title};
 use mimic_trial::Conclusion;
 use std::alloc::{AllocError, Global};
+use std::hash::BuildHasher;
 use std::io::{Read, Write};
 
 /// Reads the reports of `shards` shards, one reader after another, joins them as `joined` does, and writes the joined report in
 /// JSON. It returns the counts of that report.
 ///
 /// A reader is dropped when it has been read. All rows are kept, and none of the texts.
-pub fn join_reports<I: Read + Drop, O: Write>(
+pub fn join_reports<S: BuildHasher + Drop, I: Read + Drop, O: Write>(
     alloc: Global,
+    hash_builder: S,
     inputs: Vec<I>,
     shards: usize,
     equal_names: bool,
@@ -31,7 +33,7 @@ pub fn join_reports<I: Read + Drop, O: Write>(
         (shown O.contents sink.old) (shown O.contents sink.new) result }
 {
     let reports = read_all(alloc, inputs)?;
-    let counts = match add_joined(alloc, &reports, shards, equal_names, sink)? {
+    let counts = match add_joined(alloc, hash_builder, &reports, shards, equal_names, sink)? {
         Ok(counts) => counts,
         Err(refusal) => return Err(JoinFault::Refused(refusal)),
     };
@@ -40,8 +42,9 @@ pub fn join_reports<I: Read + Drop, O: Write>(
 }
 
 // Joins the reports as `joined` does, and adds the joined report and a flush, unless they can't be joined. Returns its counts.
-pub(crate) fn add_joined<W: Write>(
+pub(crate) fn add_joined<S: BuildHasher + Drop, W: Write>(
     alloc: Global,
+    hash_builder: S,
     reports: &[Report],
     shards: usize,
     equal_names: bool,
@@ -54,7 +57,8 @@ pub(crate) fn add_joined<W: Write>(
         (λ refusal. IsRefused shards equal_names reports.now refusal × (sink.new ≡ sink.old)))
         (λ _. sink.new ≡ sink.old) }
 {
-    let (filtered_out, nanos) = match totals_of(alloc, reports, shards, equal_names)? {
+    let totals = totals_of(alloc, hash_builder, reports, shards, equal_names)?;
+    let (filtered_out, nanos) = match totals {
         Ok(totals) => totals,
         Err(refusal) => return Ok(Err(refusal)),
     };

@@ -9,6 +9,7 @@ use crate::order::rows_in_turn;
 use mimic_events::{Key, Report, Row};
 use std::alloc::{AllocError, Global};
 use std::collections::HashSet;
+use std::hash::BuildHasher;
 use thiserror::Error;
 
 /// Why reports are not joined. Places count from 0.
@@ -36,9 +37,14 @@ pub enum Refusal {
 /// unless the suite has `equal_names`.
 /// It isn't seen if a report is of another suite, with names of its own and a number of trials that fits, nor if the flags of
 /// one run were others.
+///
+/// Kinds and names are found in a hash table that hashes by `hash_builder`. If its hashes are known beforehand, as those of std's
+/// default are, whoever chooses the names can give all of them one hash, and the time is in proportion to the square of the rows.
+/// So pass a [`RandomState`](std::hash::RandomState) if others choose the names.
 #[tactic(auto, using(crate::proofs::Laws::join_laws))]
-pub fn joined(
+pub fn joined<S: BuildHasher + Drop>(
     alloc: Global,
+    hash_builder: S,
     reports: Vec<Report>,
     shards: usize,
     equal_names: bool,
@@ -48,7 +54,8 @@ pub fn joined(
     // What holds of all reports that are joined: each row comes once, and the reports of all shards have each trial once.
     ensures laws { JoinLaws }
 {
-    let (filtered_out, nanos) = match totals_of(alloc, &reports, shards, equal_names)? {
+    let totals = totals_of(alloc, hash_builder, &reports, shards, equal_names)?;
+    let (filtered_out, nanos) = match totals {
         Ok(totals) => totals,
         Err(refusal) => return Ok(Err(refusal)),
     };
@@ -61,8 +68,9 @@ pub fn joined(
 }
 
 // Returns the number of all trials that were filtered out and the time of the longest run, or why the reports are not joined.
-pub(crate) fn totals_of(
+pub(crate) fn totals_of<S: BuildHasher + Drop>(
     alloc: Global,
+    hash_builder: S,
     reports: &[Report],
     shards: usize,
     equal_names: bool,
@@ -85,7 +93,7 @@ pub(crate) fn totals_of(
     if equal_names {
         return Ok(Ok(totals));
     }
-    match named_twice(alloc, reports)? {
+    match named_twice(alloc, hash_builder, reports)? {
         Some((place, row)) => Ok(Err(Refusal::NamedTwice { place, row })),
         None => Ok(Ok(totals)),
     }
@@ -93,8 +101,9 @@ pub(crate) fn totals_of(
 
 // Returns the place of the first report with a row whose kind and name are in a report before it, and that of its first such
 // row.
-pub(crate) fn named_twice(
+pub(crate) fn named_twice<S: BuildHasher + Drop>(
     alloc: Global,
+    hash_builder: S,
     reports: &[Report],
 ) -> Result<Option<(usize, usize)>, AllocError>
     ensures { IfOk result (λ found. MatchOption found (AllPairs HaveOwnNames reports.now)
@@ -105,7 +114,7 @@ pub(crate) fn named_twice(
         0_usize,
         |rows, report| rows.saturating_add(report.rows.len()),
     );
-    let mut seen = HashSet::with_capacity(alloc, rows)?;
+    let mut seen = HashSet::with_capacity_and_hasher(alloc, rows, hash_builder)?;
     for (place, report) in reports.iter().enumerate() {
         if let Some(row) = seen_row(&seen, &report.rows) {
             return Ok(Some((place, row)));
@@ -117,7 +126,7 @@ pub(crate) fn named_twice(
 
 // Returns the place of the first row whose kind and name were seen.
 #[inline(never)]
-fn seen_row(seen: &HashSet<Key<'_>>, rows: &[Row]) -> Option<usize>
+fn seen_row<S: BuildHasher>(seen: &HashSet<Key<'_>, S>, rows: &[Row]) -> Option<usize>
     ensures { (labels : List Label) → HasTrials seen.now labels → MatchOption result
         (All (λ row. ¬ Contains labels (label_in row)) rows.now)
         (λ place. (place < length rows.now)
@@ -132,7 +141,10 @@ fn seen_row(seen: &HashSet<Key<'_>>, rows: &[Row]) -> Option<usize>
 }
 
 #[inline(never)]
-fn add_names<'a>(seen: &mut HashSet<Key<'a>>, rows: &'a [Row]) -> Result<(), AllocError>
+fn add_names<'a, S: BuildHasher>(
+    seen: &mut HashSet<Key<'a>, S>,
+    rows: &'a [Row],
+) -> Result<(), AllocError>
     ensures { OnOk result ((labels : List Label) → HasTrials seen.old labels
         → HasTrials seen.new (labels ++ map label_in rows.now)) }
 {

@@ -4,13 +4,16 @@
 //! use mimic_events::{read_from, write_report};
 //! use mimic_join::{join_reports, joined};
 //! use mimic_printer::Sink;
+//! use std::hash::RandomState;
 //!
 //! let first = read_from(alloc, &mut first_file)?;
 //! let second = read_from(alloc, &mut second_file)?;
-//! let whole = joined(alloc, vec![in alloc; first, second]?, 2, false)??;
+//! let hash_builder = RandomState::new(&rt)?;
+//! let whole = joined(alloc, hash_builder, vec![in alloc; first, second]?, 2, false)??;
 //! write_report(&whole, &mut sink)?;
 //! // The same from readers to a writer, with less memory:
-//! let counts = join_reports(alloc, vec![in alloc; first_file, second_file]?, 2, false, &mut sink)?;
+//! let inputs = vec![in alloc; first_file, second_file]?;
+//! let counts = join_reports(alloc, hash_builder, inputs, 2, false, &mut sink)?;
 //! assert!(rt; !counts.has_failed());
 //! ```
 #![tactic(auto)]

@@ -4,12 +4,12 @@ use Rattle.mimic_join.proofs.SeenNames.{own_more, seen_more, twice}
 use Rattle.mimic_join.proofs.join.named_twice.Goals as goal
 
 pub returns-in-Some : goal.returns-in-Some
-returns-in-Some c =
+returns-in-Some g c =
     twice c.args.reports.now c.loop-place.place c.index-reports-place.result c.deref.result.now c.loop-place-test.true c.index-reports-place.is c.deref.ensures.value c.in-Some.row
     (c.in-Some.ensures _ c.loop-place.invariant.seen)
 
 pub loop-place-preserved : goal.loop-place-preserved
-loop-place-preserved c = record {
+loop-place-preserved g c = record {
   seen = subst (HasTrials c.add_names.new.seen)
       (seen_more c.args.reports.now c.loop-place.place c.index-reports-place.result c.deref-in-loop-place.result.now c.loop-place-test.true c.index-reports-place.is c.deref-in-loop-place.ensures.value)
       (c.in_ok-add_names.ensures _ c.loop-place.invariant.seen);
@@ -18,4 +18,4 @@ loop-place-preserved c = record {
 }
 
 pub returns : goal.returns
-returns c = λ i j d lt within. c.loop-place.invariant.pairs i j d lt (omega (arith, within, c.loop-place-test.false))
+returns g c = λ i j d lt within. c.loop-place.invariant.pairs i j d lt (omega (arith, within, c.loop-place-test.false))

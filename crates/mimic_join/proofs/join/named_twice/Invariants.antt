@@ -6,7 +6,7 @@ use Rattle.mimic_join.specs.Joined.{HaveOwnNames, labels_in}
 use Rattle.mimic_join.proofs.join.named_twice.Given as goal
 
 abbrev pub invariant-loop-place : goal.invariant-loop-place
-invariant-loop-place l = record {
+invariant-loop-place g l = record {
   seen : HasTrials l.seen (flat_map labels_in (take l.place l.reports));
   pairs : (i j : ℕ) (d : Report) → i < j → j < l.place → HaveOwnNames (slice_index_or l.reports i d) (slice_index_or l.reports j d);
 }

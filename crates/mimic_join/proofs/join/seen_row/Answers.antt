@@ -9,13 +9,13 @@ use Rattle.mimic_events.proofs.Keys.{at_row, same_label-decides}
 use Rattle.mimic_join.proofs.join.seen_row.Goals as goal
 
 pub returns-then-contains : goal.returns-then-contains
-returns-then-contains c = λ labels has.
+returns-then-contains g c = λ labels has.
     let row = c.index-rows-place.result in
     let in_labels = (is_member-Decides same_label-decides labels (label_in row)).0 (sym (has (Trial (at_row row))) ∙ (sym c.contains.ensures ∙ c.if-contains.true)) in
     (c.loop-place-test.true, λ d. subst (λ row. Contains labels (label_in row)) (c.index-rows-place.is ∙ get_or_default c.args.rows.now c.loop-place.place c.index-rows-place.result d c.loop-place-test.true) in_labels)
 
 pub loop-place-preserved : goal.loop-place-preserved
-loop-place-preserved c = λ labels has k d lt found.
+loop-place-preserved g c = λ labels has k d lt found.
     elim (cases_lt k c.loop-place.place) [
       | inl before ↦ c.loop-place.invariant labels has k d before found
       | inr le ↦
@@ -29,4 +29,4 @@ loop-place-preserved c = λ labels has k d lt found.
     ]
 
 pub returns : goal.returns
-returns c = λ labels has k d lt. c.loop-place.invariant labels has k d (omega (arith, lt, c.loop-place-test.false))
+returns g c = λ labels has k d lt. c.loop-place.invariant labels has k d (omega (arith, lt, c.loop-place-test.false))

@@ -5,4 +5,4 @@ use Rattle.mimic_events.specs.Key.{HasTrials, label_in}
 use Rattle.mimic_join.proofs.join.seen_row.Given as goal
 
 abbrev pub invariant-loop-place : goal.invariant-loop-place
-invariant-loop-place l = (labels : List Label) → HasTrials l.seen labels → (k : ℕ) (d : Row) → k < l.place → ¬ Contains labels (label_in (slice_index_or l.rows k d))
+invariant-loop-place g l = (labels : List Label) → HasTrials l.seen labels → (k : ℕ) (d : Row) → k < l.place → ¬ Contains labels (label_in (slice_index_or l.rows k d))
