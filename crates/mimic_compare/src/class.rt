@@ -6,6 +6,7 @@ use crate::fates::{BothFates, KeptFate};
 use crate::messages::have_other_messages;
 use mimic_trial::Outcome;
 use std::alloc::{AllocError, Global};
+use std::hash::BuildHasher;
 
 /// What became of a kind and a name from an old report to a new one.
 #[derive(Clone, Copy, Debug, PartialEq, Eq)]
@@ -36,7 +37,12 @@ pub enum Class {
 
 impl Class {
     // Returns the class of a kind and a name with these rows.
-    pub(crate) fn of(alloc: Global, fates: &BothFates, is_judged: bool) -> Result<Class, AllocError>
+    pub(crate) fn of<S: BuildHasher + Copy>(
+        alloc: Global,
+        hash_builder: S,
+        fates: &BothFates,
+        is_judged: bool,
+    ) -> Result<Class, AllocError>
         ensures { IfOk result (λ class. class ≡ class_of is_judged fates.now.old fates.now.new) }
     {
         let (old, new) = (fates.old.as_slice(), fates.new.as_slice());
@@ -66,7 +72,7 @@ impl Class {
             Class::NewlyPassing
         } else if new_failed == 0 {
             Class::Unchanged
-        } else if have_other_messages(alloc, old, new)? {
+        } else if have_other_messages(alloc, hash_builder, old, new)? {
             Class::AnotherMessage
         } else {
             Class::StillFailing

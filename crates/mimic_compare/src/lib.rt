@@ -2,9 +2,11 @@
 //!
 //! ```rust
 //! use mimic_compare::{ComparisonOptions, write_comparison};
+//! use std::hash::RandomState;
 //!
 //! let options = ComparisonOptions { slower: 125, lists_not_run: false };
-//! let verdict = write_comparison(alloc, old_file, new_file, &options, &mut sink)?;
+//! let hash_builder = RandomState::new(&rt)?;
+//! let verdict = write_comparison(alloc, hash_builder, old_file, new_file, &options, &mut sink)?;
 //! let status = verdict.status();
 //! ```
 #![tactic(auto)]

@@ -9,20 +9,21 @@ use indexmap::IndexMap;
 use mimic_events::{Row, RowTaker};
 use mimic_printer::OutputFault;
 use std::alloc::{AllocError, Global};
+use std::hash::BuildHasher;
 use std::marker::Model;
 
 // What the rows say, by their kinds and names, in the order in which these first came.
-pub(crate) type Trials = IndexMap<TrialLabel, BothFates>;
+pub(crate) type Trials<S> = IndexMap<TrialLabel, BothFates, S>;
 
 // Keeps what the rows of a report say.
 #[derive(Drop)]
-pub(crate) struct Keeper {
+pub(crate) struct Keeper<S: BuildHasher> {
     pub(crate) alloc: Global,
-    pub(crate) trials: Trials,
+    pub(crate) trials: Trials<S>,
     pub(crate) side: Side,
 }
 
-impl RowTaker for Keeper {
+impl<S: BuildHasher> RowTaker for Keeper<S> {
     ghost use Rattle.std.specs.Prelude.{◌≡◌};
     ghost use Rattle.mimic_printer.specs.declared.sink.OutputFault.TheVariants.{OutOfMemory};
     ghost use Rattle.mimic_compare.specs.Trials.{Keeps};
@@ -38,7 +39,12 @@ impl RowTaker for Keeper {
 }
 
 // Keeps what the row says.
-fn keep_row(alloc: Global, trials: &mut Trials, side: Side, row: Row) -> Result<(), AllocError>
+fn keep_row<S: BuildHasher>(
+    alloc: Global,
+    trials: &mut Trials<S>,
+    side: Side,
+    row: Row,
+) -> Result<(), AllocError>
     ensures { OnOk result (Keeps trials.old trials.new side (entry_read row ∷ [])) }
 {
     let Row {
@@ -72,17 +78,19 @@ impl<'a> Model for Comparison<'a> {
 }
 
 // Compares the rows of each kind and name.
-pub(crate) fn compare_trials(
+pub(crate) fn compare_trials<S: BuildHasher + Copy>(
     alloc: Global,
-    trials: &Trials,
+    trials: &Trials<S>,
     is_judged: bool,
 ) -> Result<Vec<Comparison<'_>>, AllocError>
     ensures { IfOk result (λ found. (come : Come) → Holds trials.now come
         → found.items ≡ found_among is_judged come) }
 {
+    // Whoever chose the names chose the messages too.
+    let hash_builder = *trials.hasher();
     let mut found = Vec::with_capacity(alloc, trials.len())?;
     for (label, fates) in trials.iter() {
-        let class = Class::of(alloc, fates, is_judged)?;
+        let class = Class::of(alloc, hash_builder, fates, is_judged)?;
         found.push(Comparison {
             label,
             fates,

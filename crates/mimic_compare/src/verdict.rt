@@ -14,6 +14,7 @@ use mimic_events::{Ending, read_into};
 use mimic_printer::{OutputFault, Sink};
 use mimic_trial::Conclusion;
 use std::alloc::Global;
+use std::hash::BuildHasher;
 use std::io::{Read, Write};
 
 /// What of a comparison is printed.
@@ -73,7 +74,7 @@ impl ComparisonVerdict {
 }
 
 // Whether nothing of a report was read: neither one of these rows nor a title.
-fn shows_nothing(trials: &Trials, ending: &Ending) -> bool
+fn shows_nothing<S: BuildHasher>(trials: &Trials<S>, ending: &Ending) -> bool
     ensures { result ≡ (index_map_len trials.now == 0 && not (has_title ending.now)) }
 {
     trials.is_empty()
@@ -103,11 +104,16 @@ fn shows_nothing(trials: &Trials, ending: &Ending) -> bool
 /// fails or is cut, the rows are compared that have ended, and the verdict says how each input ended. If nothing of the old one could
 /// be read, so that it has no row, and either no title or an error of its reader, nothing is printed, and all numbers are 0.
 ///
-/// Each kind and name is kept once, with the outcomes and the times of its rows. Time and memory are in proportion to the rows. If
-/// memory ran out, nothing was written. After a write fault, a beginning of the whole was written.
+/// Each kind and name is kept once, with the outcomes and the times of its rows. Time and memory are in proportion to the rows.
+/// Kinds, names and messages are found in hash tables that hash by `hash_builder`. If its hashes are known beforehand, as those of
+/// std's default are, whoever chooses these texts can give all of them one hash, and the time is in proportion to the square of the
+/// rows. So pass a [`RandomState`](std::hash::RandomState) if others choose them.
+///
+/// If memory ran out, nothing was written. After a write fault, a beginning of the whole was written.
 #[tactic(auto, using(crate::proofs::Laws::comparison_laws))]
-pub fn write_comparison<I: Read + Drop, W: Write>(
+pub fn write_comparison<S: BuildHasher + Copy, I: Read + Drop, W: Write>(
     alloc: Global,
+    hash_builder: S,
     old: I,
     new: I,
     options: &ComparisonOptions,
@@ -123,7 +129,7 @@ pub fn write_comparison<I: Read + Drop, W: Write>(
 {
     let mut keeper = Keeper {
         alloc,
-        trials: IndexMap::new(alloc),
+        trials: IndexMap::with_hasher(alloc, hash_builder),
         side: Side::Old,
     };
     let old = read_into(alloc, old, &mut keeper)?;

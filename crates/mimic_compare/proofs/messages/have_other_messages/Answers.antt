@@ -5,7 +5,7 @@ use Rattle.mimic_compare.proofs.messages.have_other_messages.Goals as goal
 use Rattle.mimic_compare.proofs.messages.have_other_messages.Goals.{then-are_other, else-are_other}
 
 pub returns : goal.returns
-returns c =
+returns g c =
     let old = c.args.old.now in
     let new = c.args.new.now in
     let test = is_other old new in

@@ -6,7 +6,7 @@ use Rattle.mimic_compare.proofs.Found.{all_found}
 use Rattle.mimic_compare.proofs.trials.compare_trials.Goals as goal
 
 pub loop-label-preserved : goal.loop-label-preserved
-loop-label-preserved c = simp (map-append, c.in_ok-push.ensures.items, c.loop-label.invariant, c.in_ok-class.ensures) refl
+loop-label-preserved g c = simp (map-append, c.in_ok-push.ensures.items, c.loop-label.invariant, c.in_ok-class.ensures) refl
 
 pub returns : goal.returns
-returns c = λ come h. grind (arith, common_steps, iter_end, all_found c.args.is_judged c.args.trials.now come c.iter-label-items.ensures.unique h)
+returns g c = λ come h. grind (arith, common_steps, iter_end, all_found c.args.is_judged c.args.trials.now come c.iter-label-items.ensures.unique h)

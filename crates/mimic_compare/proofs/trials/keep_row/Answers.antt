@@ -5,7 +5,7 @@ use Rattle.mimic_compare.proofs.Steps.{kept}
 use Rattle.mimic_compare.proofs.trials.keep_row.Goals as goal
 
 pub returns : goal.returns
-returns c =
+returns g c =
     let update = c.in_ok-trials.ensures.update in
     let fates = c.push.new.self in
     search (rules, kept c.args.trials.now (map_with_value c.in_ok-trials.field-0 fates) c.args.side (entry_read c.args.row) fates, update.0 fates, update.1)

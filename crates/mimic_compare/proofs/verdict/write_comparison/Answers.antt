@@ -27,11 +27,11 @@ whole g c =
     let before : InputRead = record { entries = c.in_ok-old.ensures.0; ending = c.in_ok-old.old } in
     let after : InputRead = record { entries = c.in_ok-new.ensures.0; ending = c.in_ok-new.new } in
     let some : shows_nothing before ≡ false =
-    ap (λ none. none && not (has_title before.ending)) (sym (none_kept _ _ before.entries c.new.ensures.empty c.in_ok-old.ensures.2.1))
+    ap (λ none. none && not (has_title before.ending)) (sym (none_kept _ _ before.entries c.with_hasher.ensures.empty c.in_ok-old.ensures.2.1))
     ∙ sym c.shows_nothing-is_refused.ensures ∙ c.if-is_refused.false in
     let judged : c.if-has_all.compare_trials ≡ (has_all before.ending && has_all after.ending) = search rules in
     let found : c.in_ok-found.found.items ≡ found_in before after =
-    found_both _ _ _ before.entries after.entries _ c.in_ok-found.found.items c.new.ensures.empty c.in_ok-old.ensures.2.1 c.in_ok-new.ensures.2.1 c.in_ok-found.ensures
+    found_both _ _ _ before.entries after.entries _ c.in_ok-found.found.items c.with_hasher.ensures.empty c.in_ok-old.ensures.2.1 c.in_ok-new.ensures.2.1 c.in_ok-found.ensures
     ∙ ap (λ b. comparisons b before.entries after.entries) judged
     ∙ sym (ap (λ none. cond none [] (all_of before after)) some) in (
       record {
@@ -60,7 +60,7 @@ returns-then-is_refused-clause-written g c =
     let before : InputRead = record { entries = c.in_ok-old.ensures.0; ending = c.in_ok-old.old } in
     let after : InputRead = record { entries = c.in_ok-new.ensures.0; ending = c.in_ok-new.new } in
     let nothing : shows_nothing before ≡ true =
-    ap (λ none. none && not (has_title before.ending)) (sym (none_kept _ _ before.entries c.new.ensures.empty c.in_ok-old.ensures.2.1))
+    ap (λ none. none && not (has_title before.ending)) (sym (none_kept _ _ before.entries c.with_hasher.ensures.empty c.in_ok-old.ensures.2.1))
     ∙ sym c.shows_nothing-is_refused.ensures ∙ c.if-is_refused.true in
     let none : found_in before after ≡ [] = ap (λ b. cond b [] (all_of before after)) nothing in (
       record {
