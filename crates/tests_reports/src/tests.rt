@@ -3,6 +3,7 @@
 mod compare;
 mod cut;
 mod expect;
+mod hashing;
 mod joining;
 mod lines;
 mod page;

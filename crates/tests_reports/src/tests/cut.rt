@@ -1,5 +1,6 @@
 //! What is joined of reports that are cut, as after runs were killed, and what is shown of a text that is none. Expected texts are
 //! worked out by hand.
+use super::hashing::usual_hashes;
 use super::lines::{KILLED, announced, failed, passed, read, summary, text_of, title};
 use super::reading::Slow;
 use mimic_events::{Ending, RowsRead};
@@ -38,7 +39,7 @@ pub(super) fn join_cut_into<I: Read + Drop, W: Write>(
     writer: W,
 ) -> (W, Result<Joined, JoinFault>) {
     let mut sink = Sink::new(writer);
-    let joined = join_cut_reports(alloc, inputs, shards, false, &mut sink);
+    let joined = join_cut_reports(alloc, usual_hashes(), inputs, shards, false, &mut sink);
     (sink.into_inner(), joined)
 }
 

@@ -1,4 +1,5 @@
 //! Reports that are read from readers, and texts of readers that are no reports.
+use super::hashing::usual_hashes;
 use super::joining::shown;
 use mimic_join::{JoinFault, join_reports};
 use mimic_printer::Sink;
@@ -79,7 +80,7 @@ pub(super) fn join_into<I: Read + Drop, W: Write>(
     writer: W,
 ) -> (W, Result<Conclusion, JoinFault>) {
     let mut sink = Sink::new(writer);
-    let joined = join_reports(alloc, inputs, shards, false, &mut sink);
+    let joined = join_reports(alloc, usual_hashes(), inputs, shards, false, &mut sink);
     (sink.into_inner(), joined)
 }
 

@@ -1,4 +1,5 @@
 //! The 17 trials of `harness`, run in shards by one thread and a clock that never moves.
+use super::hashing::usual_hashes;
 use super::joining::join;
 use super::reading::join_into;
 use libtest_mimic::{Arguments, Stopwatch, Trial, run_here};
@@ -168,6 +169,7 @@ fn report_of(alloc: Global, index: usize, count: usize) -> Result<Report, Fail> 
 fn joins_reports_of_runs(rt: HostRuntime) -> Result<(), Fail> {
     let alloc = rt.alloc();
     let reports = vec![in alloc; report_of(alloc, 0, 2)?, report_of(alloc, 1, 2)?]?;
-    assert!(rt; join(alloc, reports, 2, false)? == Ok(report_of(alloc, 0, 1)?));
+    let joined = join(alloc, usual_hashes(), reports, 2, false)?;
+    assert!(rt; joined == Ok(report_of(alloc, 0, 1)?));
     Ok(())
 }

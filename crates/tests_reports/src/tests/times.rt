@@ -1,7 +1,8 @@
 //! What is the same of a report whose rows have times and of one without them, and what is printed of the slowest trials of no reports.
 //! Expected texts are worked out by hand.
-use super::compare::{OPTIONS, compare};
+use super::compare::compare;
 use super::expect::{judged, numbers};
+use super::hashing::usual_hashes;
 use super::lines::{announced, failed, ignored, measured, passed, summary, text_of, title};
 use super::reading::Slow;
 use super::watching::{LOG, TERMINAL, watched_pieces};
@@ -166,7 +167,7 @@ fn compares_the_same_without_times(rt: HostRuntime) -> Result<(), Fail> {
     for (old, new) in [(TIMED, PLAIN), (PLAIN, TIMED), (TIMED, TIMED)] {
         let (old, new) = (text_of(alloc, old)?, text_of(alloc, new)?);
         let (old, new) = (Slow::of(old.as_str()), Slow::of(new.as_str()));
-        let (bytes, compared) = compare(alloc, old, new, &OPTIONS, Vec::new(alloc));
+        let (bytes, compared) = compare(alloc, usual_hashes(), old, new);
         let status = compared?.status();
         let text = String::from_utf8(bytes)?;
         assert!(rt; status == 0 && text.as_str() == UNCHANGED, "{text}");

@@ -2,6 +2,7 @@
 //! writer again.
 use super::compare::{AFTER, BEFORE, OPTIONS};
 use super::cut::join_cut_into;
+use super::hashing::usual_hashes;
 use super::lines::{KILLED, read, text_of};
 use super::reading::Slow;
 use super::times::TIMED;
@@ -152,7 +153,7 @@ fn whole(alloc: Global, writer: FaultyWriter) -> Written {
 
 fn joined(alloc: Global, text: &str, writer: FaultyWriter) -> Written {
     let inputs = vec![in alloc; Slow::of(text)]?;
-    written!(alloc, writer, sink => join_reports(alloc, inputs, 1, false, &mut sink))
+    written!(alloc, writer, sink => join_reports(alloc, usual_hashes(), inputs, 1, false, &mut sink))
 }
 
 fn joined_cut(alloc: Global, writer: FaultyWriter) -> Written {
@@ -210,7 +211,7 @@ fn slowest(alloc: Global, writer: FaultyWriter) -> Written {
 fn comparison(alloc: Global, writer: FaultyWriter) -> Written {
     let (old, new) = (text_of(alloc, BEFORE)?, text_of(alloc, AFTER)?);
     let (old, new) = (Slow::of(old.as_str()), Slow::of(new.as_str()));
-    written!(alloc, writer, sink => write_comparison(alloc, old, new, &OPTIONS, &mut sink))
+    written!(alloc, writer, sink => write_comparison(alloc, usual_hashes(), old, new, &OPTIONS, &mut sink))
 }
 
 // Of the first input all rows are judged, also if the writer fails in those of the second.
