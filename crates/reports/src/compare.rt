@@ -2,10 +2,11 @@
 use crate::faults::{refuse, refuse_output, status_of_end};
 use crate::input::Input;
 use crate::line::Compare;
-use crate::{CANNOT_RUN, output};
+use crate::{CANNOT_RUN, output, random_hashes};
 use mimic_compare::{ComparisonOptions, ComparisonVerdict, write_comparison};
 use mimic_printer::OutputFault;
 use std::alloc::Global;
+use std::hash::RandomState;
 
 // Prints what became of each kind and name, and why an input is no whole report. Nothing is compared if a file can't be opened: all that
 // the other one has would look new, or gone. Nor is it if nothing of the older report could be read.
@@ -15,7 +16,10 @@ pub(crate) fn run(rt: &HostRuntime, alloc: Global, compare: &Compare) -> u8 {
     let (Some(old), Some(new)) = (old, new) else {
         return CANNOT_RUN;
     };
-    match print(rt, alloc, compare, old, new) {
+    let Some(hash_builder) = random_hashes(rt) else {
+        return CANNOT_RUN;
+    };
+    match print(rt, alloc, hash_builder, compare, old, new) {
         Ok(verdict) => {
             status_of_end(rt, compare.old.as_str(), &verdict.old);
             status_of_end(rt, compare.new.as_str(), &verdict.new);
@@ -35,6 +39,7 @@ fn open<'a>(rt: &'a HostRuntime, file: &'a str) -> Option<Input<'a>> {
 fn print<'a>(
     rt: &'a HostRuntime,
     alloc: Global,
+    hash_builder: RandomState,
     compare: &Compare,
     old: Input<'a>,
     new: Input<'a>,
@@ -43,5 +48,6 @@ fn print<'a>(
         slower: compare.slower,
         lists_not_run: compare.lists_not_run,
     };
-    write_comparison(alloc, old, new, &options, &mut output(rt, alloc)?)
+    let mut sink = output(rt, alloc)?;
+    write_comparison(alloc, hash_builder, old, new, &options, &mut sink)
 }

@@ -3,14 +3,18 @@ use crate::by_name::Absent;
 use crate::faults::{hint_of, refuse_all, refuse_write, status_with_running};
 use crate::input::Input;
 use crate::line::Join;
-use crate::{CANNOT_RUN, SUCCESS, TRIALS_FAILED, output};
+use crate::{CANNOT_RUN, SUCCESS, TRIALS_FAILED, output, random_hashes};
 use mimic_events::{ReadFault, RowsRead};
 use mimic_join::{JoinFault, Joined, Refusal, join_cut_reports, join_reports};
 use std::alloc::Global;
+use std::hash::RandomState;
 
 // Prints the joined report, and why it is cut, or why there is none.
 pub(crate) fn run(rt: &HostRuntime, alloc: Global, join: &Join) -> u8 {
-    match print(rt, alloc, join) {
+    let Some(hash_builder) = random_hashes(rt) else {
+        return CANNOT_RUN;
+    };
+    match print(rt, alloc, hash_builder, join) {
         Ok(Joined::Whole(counts)) if counts.has_failed() => TRIALS_FAILED,
         Ok(Joined::Whole(_)) => SUCCESS,
         Ok(Joined::Cut(reads)) => refuse_shards(rt, alloc, join, &reads),
@@ -18,7 +22,12 @@ pub(crate) fn run(rt: &HostRuntime, alloc: Global, join: &Join) -> u8 {
     }
 }
 
-fn print(rt: &HostRuntime, alloc: Global, join: &Join) -> Result<Joined, JoinFault> {
+fn print(
+    rt: &HostRuntime,
+    alloc: Global,
+    hash_builder: RandomState,
+    join: &Join,
+) -> Result<Joined, JoinFault> {
     let (reports, shards, equal_names) = (join.files.len(), join.shards, join.equal_names);
     if join.cut && reports > shards {
         return Err(JoinFault::Refused(Refusal::Number { reports, shards }));
@@ -26,9 +35,9 @@ fn print(rt: &HostRuntime, alloc: Global, join: &Join) -> Result<Joined, JoinFau
     let inputs = Input::all(rt, alloc, &join.files)?;
     let mut sink = output(rt, alloc)?;
     if join.cut {
-        join_cut_reports(alloc, inputs, shards, equal_names, &mut sink)
+        join_cut_reports(alloc, hash_builder, inputs, shards, equal_names, &mut sink)
     } else {
-        let counts = join_reports(alloc, inputs, shards, equal_names, &mut sink)?;
+        let counts = join_reports(alloc, hash_builder, inputs, shards, equal_names, &mut sink)?;
         Ok(Joined::Whole(counts))
     }
 }

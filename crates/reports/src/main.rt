@@ -26,6 +26,7 @@ use mimic_console::Streams;
 use mimic_printer::{Sink, WriteFault};
 use mimic_trial::Conclusion;
 use std::alloc::{AllocError, Global};
+use std::hash::RandomState;
 use std::io;
 use std::io::{BufWriter, Stdout};
 use std::process::ExitCode;
@@ -71,6 +72,13 @@ fn output(rt: &HostRuntime, alloc: Global) -> Result<Sink<BufWriter<Stdout>>, Al
         Ok(out) => Ok(Sink::new(out)),
         Err(_) => Err(AllocError),
     }
+}
+
+// Returns what hashes kinds, names and messages, with keys that nobody knows beforehand, or prints why there are none.
+fn random_hashes(rt: &HostRuntime) -> Option<RandomState> {
+    RandomState::new(rt)
+        .map_err(|error| refuse_all(rt, &format_args!("cannot get random bytes: {error}")))
+        .ok()
 }
 
 // Prints help, or why the line was refused.
