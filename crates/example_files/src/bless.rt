@@ -25,7 +25,7 @@ pub(crate) fn bless(
         }
         selected = selected.saturating_add(1);
         let (_info, case) = trial.into_parts();
-        match case.bless() {
+        match case.bless(rt.process()) {
             Ok(is_new) => written = written.saturating_add(usize::from(is_new)),
             Err(failed) => {
                 let reason = failed.message().unwrap_or("out of memory");

@@ -4,6 +4,7 @@ use libtest_mimic::{Check, Failed, check_ok, fail};
 use mimic_files::{CaseFiles, FileError};
 use std::fmt;
 use std::io::ErrorKind;
+use std::process::Process;
 use std::rt::Files;
 
 /// What a trial runs: a pair of files.
@@ -29,15 +30,15 @@ impl<M: Files + AllocGlobal + Drop> Check for FileCase<M> {
 }
 
 impl<M: Files + AllocGlobal> FileCase<M> {
-    /// Makes the answer the output. Returns whether it was another one, or wasn't there. The error says why there is no answer, or which
-    /// file can't be read or written. After a failed write, a part of the output may be there.
-    pub(crate) fn bless(&self) -> Result<bool, Failed> {
+    /// Makes the answer the output. Returns whether it was another one, or wasn't there. The error says why there is no answer, or
+    /// which file can't be read or written. Then the output is as it was.
+    pub(crate) fn bless(&self, process: Process) -> Result<bool, Failed> {
         let alloc = self.rt.alloc();
         let answered = self.answered()?;
         if self.is_output(&answered)? {
             return Ok(false);
         }
-        check_ok!(in alloc; self.files.write_text(&self.rt, "out", answered.as_str()))?;
+        check_ok!(in alloc; self.files.write_text(&self.rt, process, "out", answered.as_str()))?;
         Ok(true)
     }
 

@@ -1,6 +1,9 @@
 //! Reads and writes files.
+use crate::replace::replace_file;
 use std::alloc::{AllocError, Global};
+use std::hash::{DefaultHasher, Hasher};
 use std::io::ErrorKind;
+use std::process::Process;
 use std::rt::Files;
 use std::{fs, io};
 use thiserror::Error;
@@ -70,17 +73,24 @@ impl CaseFiles {
         })
     }
 
-    /// Makes the text the content of the file with this extension. After an error a part of it may be there.
+    /// Makes the text the content of the file with this extension, as [`replace_file`] does. Threads may write files at once, since
+    /// each label has a number that is made of the file's path, as in `.mimic.3d1ca258a0c6b174.PROCESS.new`.
     pub fn write_text<M: Files + AllocGlobal>(
         &self,
         rt: &M,
+        process: Process,
         extension: &str,
         text: &str,
     ) -> Result<(), FileError> {
-        let file = self.with_extension(rt.alloc(), extension)?;
-        fs::write(rt, file.path.as_str(), text).map_err(|error| FileError::Unwritable {
-            path: file.shown,
-            error,
+        let alloc = rt.alloc();
+        let file = self.with_extension(alloc, extension)?;
+        let path = file.path.as_str();
+        let label = label_of(alloc, path)?;
+        replace_file(rt, process, label.as_str(), path, text.as_bytes()).map_err(|error| {
+            FileError::Unwritable {
+                path: file.shown,
+                error,
+            }
         })
     }
 
@@ -94,10 +104,18 @@ impl CaseFiles {
     }
 }
 
+// Returns a label for the file that is to replace the one at the path.
+fn label_of(alloc: Global, path: &str) -> Result<String, AllocError> {
+    let mut hasher = DefaultHasher::new();
+    hasher.write(path.as_bytes());
+    let number = hasher.finish();
+    format!(in alloc; "mimic.{number:x}")
+}
+
 /// Returns what the file at the path holds.
 ///
-/// What is no regular file, nor a link to one, is refused with `InvalidInput`. It isn't opened, since a FIFO would be waited for. Other
-/// errors are the system's. No contract says what a disk holds.
+/// What is no regular file, nor a link to one, is refused with `InvalidInput`. It isn't opened, since a FIFO would be waited for.
+/// Other errors are the system's. No contract says what a disk holds.
 pub fn read_bytes<M: Files + AllocGlobal>(rt: &M, path: &str) -> Result<Vec<u8>, FileError> {
     match bytes_at(rt, path) {
         Ok(bytes) => Ok(bytes),

@@ -1,4 +1,5 @@
-//! Cases in files: finds them below folders, and reads them. For programs whose trials are files, beside `libtest_mimic`.
+//! Cases in files: finds them below folders, reads their files, and replaces these. For programs whose trials are files, beside
+//! `libtest_mimic`.
 //!
 //! ```rust
 //! use mimic_files::{Found, cases_below};
@@ -12,6 +13,8 @@
 
 mod files;
 mod folders;
+mod replace;
 
 pub use files::{CaseFiles, FileError, read_bytes, read_text};
 pub use folders::{FolderError, Found, cases_below};
+pub use replace::replace_file;
