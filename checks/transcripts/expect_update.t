@@ -128,7 +128,21 @@ If there is no room for the new file, the old one stays, and nothing is beside i
   $ ls
   known
   sums
-  $ cd ..
+
+A new file that is there already stays as it is.
+
+  $ (echo mine >.reports.$BASHPID.new; exec reports expect --update known sums)
+  failed: 2 + 2: assertion `left == right` failed
+  0 known failures; 1 failed; 0 passed; 0 with another message; 0 absent
+  2> reports: known: the new file beside it, .reports.PROCESS.new, is there already
+  [1]
+  $ cmp known ../before; cat .reports.*; cd ..
+  mine
+
+The file may be in a folder whose name isn't UTF-8.
+
+  $ mkdir $'\xff'; cd $'\xff'; cp ../full/known known; reports expect --update known ../sums >/dev/null; tail -n 1 known; cd ..
+  { "type": "test", "name": "2 + 2", "event": "failed", "stdout": "Error: \"assertion `left == right` failed\n  left: 4\n right: 5\"\n" }
 
 How files change. The second update changes nothing, and by the new file nothing of the same reports is unexpected.
 

@@ -6,15 +6,11 @@ use crate::{CANNOT_RUN, SUCCESS, output};
 use mimic_expect::{
     Expectation, ExpectationVerdict, KnownFault, read_known, write_unexpected, write_updated,
 };
+use mimic_files::replace_file;
 use mimic_printer::{OutputFault, Sink};
 use std::alloc::{AllocError, Global};
-use std::fs::{File, Permissions};
-use std::io::{Error, ErrorKind, Read, Write};
-use std::path::{Path, PathBuf};
-use std::{fs, io, process};
-
-// Why a file can't be replaced.
-const NOT_REGULAR: &str = "not a regular file";
+use std::io::{Error, ErrorKind, Read};
+use std::{fs, io};
 
 // Prints what is unexpected, or why that can't be judged.
 pub(crate) fn run(rt: &HostRuntime, alloc: Global, expect: &Expect) -> u8 {
@@ -45,7 +41,7 @@ pub(crate) fn run(rt: &HostRuntime, alloc: Global, expect: &Expect) -> u8 {
 fn known_text(rt: &HostRuntime, alloc: Global, expect: &Expect) -> io::Result<Vec<u8>> {
     let file = expect.known.as_str();
     if expect.updates && fs::metadata(rt, file).is_ok_and(|metadata| !metadata.is_file()) {
-        return Err(Error::new(ErrorKind::InvalidInput, NOT_REGULAR));
+        return Err(Error::new(ErrorKind::InvalidInput, "not a regular file"));
     }
     let mut text = Vec::new(alloc);
     match Input::known(rt, file).read_to_end(&mut text) {
@@ -95,7 +91,7 @@ fn update(
         Err(fault) => return refuse_output(rt, &fault),
     };
     let file = expect.known.as_str();
-    match replace(rt, alloc, file, text, &new) {
+    match replace(rt, file, text, &new) {
         Ok(()) => SUCCESS,
         Err(error) => refuse(rt, file, &error),
     }
@@ -160,59 +156,10 @@ impl Read for Copied<'_> {
     }
 }
 
-// Gives the file a new text, if that is another one or there is no file. A new file beside it takes its name, so that a crash leaves
-// the old text or the new one. If anything fails, the old file stays, and the new one is removed.
-fn replace(rt: &HostRuntime, alloc: Global, file: &str, old: &[u8], new: &[u8]) -> io::Result<()> {
-    let target = target_of(rt, alloc, file)?;
-    let permissions = match fs::metadata(rt, target.as_path()) {
-        Ok(metadata) if !metadata.is_file() => {
-            return Err(Error::new(ErrorKind::InvalidInput, NOT_REGULAR));
-        }
-        Ok(_) if old == new => return Ok(()),
-        Ok(metadata) => Some(metadata.permissions()),
-        Err(error) if error.kind() == ErrorKind::NotFound => None,
-        Err(error) => return Err(error),
-    };
-    let path = path_beside(rt, alloc, target.as_path().as_str())?;
-    let beside = match File::create_new(rt, &path) {
-        Err(error) if error.kind() == ErrorKind::AlreadyExists => {
-            let cause = "the new file beside it, .reports.PROCESS.new, is there already";
-            return Err(Error::new(ErrorKind::AlreadyExists, cause));
-        }
-        created => created?,
-    };
-    let replaced = fill(beside, new, permissions).and_then(|()| fs::rename(rt, &path, &target));
-    if replaced.is_err() {
-        let _ = fs::remove_file(rt, &path);
+// Gives the file a new text, if that is another one or there is no file.
+fn replace(rt: &HostRuntime, file: &str, old: &[u8], new: &[u8]) -> io::Result<()> {
+    if old == new && fs::metadata(rt, file).is_ok_and(|metadata| metadata.is_file()) {
+        return Ok(());
     }
-    replaced
-}
-
-// Returns the path of a new file in the folder of the target. Its name is short, so the target's may be as long as names can be.
-fn path_beside(rt: &HostRuntime, alloc: Global, target: &str) -> Result<String, AllocError> {
-    let id = process::id(rt.process());
-    match target.rsplit_once('/') {
-        Some((folder, _)) => format!(in alloc; "{folder}/.reports.{id}.new"),
-        None => format!(in alloc; ".reports.{id}.new"),
-    }
-}
-
-// Returns the path of the file that a path leads to through symbolic links, or the path itself if nothing is there. A link that leads
-// nowhere is an error.
-fn target_of(rt: &HostRuntime, alloc: Global, file: &str) -> io::Result<PathBuf> {
-    match fs::canonicalize(rt, file) {
-        Err(error) if error.kind() == ErrorKind::NotFound && !Path::new(file).is_symlink(rt) => {
-            PathBuf::from_str(alloc, file).map_err(|_| ErrorKind::OutOfMemory.into())
-        }
-        found => found,
-    }
-}
-
-// Writes the text, down to the disk.
-fn fill(mut file: File, text: &[u8], permissions: Option<Permissions>) -> io::Result<()> {
-    if let Some(permissions) = permissions {
-        file.set_permissions(permissions)?;
-    }
-    file.write_all(text)?;
-    file.sync_all()
+    replace_file(rt, rt.process(), "reports", file, new)
 }
