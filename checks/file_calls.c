@@ -1,6 +1,6 @@
-/* Preloaded into a program, it names the calls that open, write, rename or remove files: the file descriptor CALLS gets a line for
-   each. The call whose number AT holds, counted from 1, fails with the error ERROR, or if there is none the program is killed there.
-   If it is a write, half of it is written before. */
+/* Preloaded into a program, it names the calls that open, write, rename or remove files: the file descriptor CALLS gets a line
+   for each. The call whose number AT holds, counted from 1, fails with the error ERROR, or if there is none the program is killed
+   there. If it is a write, half of it is written before. With STOPS the program is stopped before that call, which doesn't fail. */
 
 #define _GNU_SOURCE
 #include <errno.h>
@@ -21,7 +21,12 @@ static int is_met(const char *name)
     const char *at = getenv("AT");
     if (named)
         dprintf(atoi(named), "%s\n", name);
-    return at && ++calls == strtoul(at, NULL, 10);
+    if (!at || ++calls != strtoul(at, NULL, 10))
+        return 0;
+    if (!getenv("STOPS"))
+        return 1;
+    raise(SIGSTOP);
+    return 0;
 }
 
 static int fail(void)
