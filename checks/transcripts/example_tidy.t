@@ -177,3 +177,129 @@
         --width <N>               How many characters a line may have [default: 80]
         --tabs                    Allow tabs
     -h, --help                    Print help
+
+Help comes also by `-h`, and before what is wrong behind it. The word `help` is a folder.
+
+  $ diff <(example_tidy --help) <(example_tidy tidy -qh) && diff <(example_tidy --help) <(example_tidy --width 5 --help --nope)
+  $ refused() { example_tidy "$@" 2>&1 | sed -n 1p; }
+  $ refused --nope --help
+  error: unexpected argument '--nope' found
+  [2]
+  $ refused help
+  example_tidy: cannot read the folder help: No such file or directory (os error 2)
+  [1]
+  $ refused --help=x
+  error: unexpected value 'x' for '--help' found; no more were expected
+  [2]
+  $ refused --version
+  error: unexpected argument '--version' found
+  [2]
+
+An option may be there once, but `--skip` many times.
+
+  $ refused tidy --tabs --width 1 --tabs
+  error: the argument '--tabs' cannot be used multiple times
+  [2]
+  $ refused --width=1 tidy --width=1
+  error: the argument '--width <N>' cannot be used multiple times
+  [2]
+  $ refused tidy -q --quiet
+  error: the argument '--quiet' cannot be used multiple times
+  [2]
+  $ refused --format json tidy --format json
+  error: the argument '--format <FORMAT>' cannot be used multiple times
+  [2]
+  $ example_tidy --skip 'read ' tidy --skip=a --skip d --list
+  b: test
+  [k] c: test
+
+Values that are missing, and those that an option can't have.
+
+  $ refused tidy --width
+  error: a value is required for '--width <N>' but none was supplied
+  [2]
+  $ refused tidy --width=
+  error: invalid value '' for '--width <N>': cannot parse integer from empty string
+  [2]
+  $ refused tidy --width --tabs
+  error: a value is required for '--width <N>' but none was supplied
+  [2]
+  $ refused --width tidy
+  error: invalid value 'tidy' for '--width <N>': invalid digit found in string
+  [2]
+  $ refused --width 5
+  error: the following required arguments were not provided:
+  [2]
+  $ refused tidy --width -1
+  error: unexpected argument '-1' found
+  [2]
+  $ refused tidy --width=-1
+  error: invalid value '-1' for '--width <N>': invalid digit found in string
+  [2]
+  $ refused tidy --width 5.0
+  error: invalid value '5.0' for '--width <N>': invalid digit found in string
+  [2]
+  $ refused tidy --tabs=yes
+  error: unexpected value 'yes' for '--tabs' found; no more were expected
+  [2]
+  $ refused tidy --format
+  error: a value is required for '--format <FORMAT>' but none was supplied
+  [2]
+  $ refused ''
+  example_tidy: cannot read the folder : No such file or directory (os error 2)
+  [1]
+
+Unknown words.
+
+  $ refused tidy --widths 5
+  error: unexpected argument '--widths' found
+  [2]
+  $ refused tidy --Tabs
+  error: unexpected argument '--Tabs' found
+  [2]
+  $ refused tidy --tab
+  error: unexpected argument '--tab' found
+  [2]
+  $ refused tidy -w 5
+  error: unexpected argument '-w' found
+  [2]
+  $ refused tidy -qt
+  error: unexpected argument '-t' found
+  [2]
+
+Behind `--` each word is the folder or a filter.
+
+  $ mkdir ./--tabs; touch ./--tabs/{--list,--,-q,x}.txt
+  $ example_tidy --list -- --tabs --list -q
+  --list: test
+  read --list: bench
+  -q: test
+  read -q: bench
+  $ example_tidy --list --skip read -- --tabs
+  --: test
+  --list: test
+  -q: test
+  x: test
+  $ example_tidy --exact --list ./--tabs -- --
+  --: test
+  $ refused --
+  error: the following required arguments were not provided:
+  [2]
+  $ refused --tabs -- --nope
+  example_tidy: cannot read the folder --nope: No such file or directory (os error 2)
+  [1]
+
+Words that aren't UTF-8.
+
+  $ example_tidy $'caf\xe9'
+  2> cannot read the arguments
+  [2]
+  $ example_tidy --help $'\xff'
+  2> cannot read the arguments
+  [2]
+  $ example_tidy tidy --width=$'\xff'
+  2> cannot read the arguments
+  [2]
+  $ example_tidy tidy -- $'\xff'
+  2> cannot read the arguments
+  [2]
