@@ -28,6 +28,7 @@ pub fn replace_file<M: Files + AllocGlobal>(
     path: &str,
     content: &[u8],
 ) -> io::Result<()> {
+    let alloc = rt.alloc();
     let target = target_of(rt, path)?;
     let permissions = match fs::metadata(rt, &target) {
         Ok(metadata) if metadata.is_file() => Some(metadata.permissions()),
@@ -35,10 +36,13 @@ pub fn replace_file<M: Files + AllocGlobal>(
         Err(error) if error.kind() == ErrorKind::NotFound => None,
         Err(error) => return Err(error),
     };
-    let beside = path_beside(rt.alloc(), process, label, target.as_path().as_str())?;
+    let beside = path_beside(alloc, process, label, target.as_path().as_str())?;
     let new = match File::create_new(rt, &beside) {
         Err(error) if error.kind() == ErrorKind::AlreadyExists => {
-            return Err(already_there(rt.alloc(), label));
+            let cause = format!(in alloc;
+                "the new file beside it, .{label}.PROCESS.new, is there already"
+            )?;
+            return Err(Error::new(ErrorKind::AlreadyExists, &cause));
         }
         created => created?,
     };
@@ -70,13 +74,6 @@ fn path_beside(
     match target.rsplit_once('/') {
         Some((folder, _)) => format!(in alloc; "{folder}/.{label}.{id}.new"),
         None => format!(in alloc; ".{label}.{id}.new"),
-    }
-}
-
-fn already_there(alloc: Global, label: &str) -> Error {
-    match format!(in alloc; "the new file beside it, .{label}.PROCESS.new, is there already") {
-        Ok(cause) => Error::new(ErrorKind::AlreadyExists, &cause),
-        Err(error) => error.into(),
     }
 }
 
