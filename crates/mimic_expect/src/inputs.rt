@@ -1,5 +1,5 @@
 //! Writes what of reports is unexpected.
-ghost use Rattle.std.specs.Prelude.{◌≡◌, ◌<◌, ◌-◌, ◌^◌, List, IfSome, MatchResult, map};
+ghost use Rattle.std.specs.Prelude.{[], ◌≡◌, ◌<◌, ◌-◌, ◌^◌, List, IfSome, MatchResult, map};
 ghost use Rattle.std.specs.List.{AllZip, flat_map};
 ghost use Rattle.mimic_printer.specs.Json.{Entry};
 ghost use Rattle.mimic_printer.specs.Sink.{Adds, HasFaultLeft, shown};
@@ -21,6 +21,7 @@ use crate::verdict::{ExpectationVerdict, have_all};
 use mimic_events::{Ending, Row, RowTaker, read_into};
 use mimic_printer::{OutputFault, Piece, Sink, add_pieces};
 use std::alloc::Global;
+use std::hash::BuildHasher;
 use std::io::{Read, Write};
 
 /// Writes what of the reports is not as the known failures say, each once and as one line, then a line of the numbers, and
@@ -36,13 +37,18 @@ use std::io::{Read, Write};
 /// A failure whose kind and name no known failure has is written as soon as it is read. Rows of known kinds and names are kept,
 /// and no others.
 ///
+/// Kinds, names and messages are found in hash tables that hash by `hash_builder`. If its hashes are known beforehand, as those of
+/// std's default are, whoever chooses these texts can give all of them one hash, and then each is looked for among all of them. So
+/// pass a [`RandomState`](std::hash::RandomState) if others choose them.
+///
 /// If an input fails, the others are still judged: the verdict says how each ended, and of that one rows are judged that have ended
 /// in a front of its bytes. Without memory the lines were written of the failures that no known failure has, among rows that were
 /// judged so of some first inputs and of the next one. With a fault of the writer a beginning of such lines, or of the whole text,
 /// was written.
 #[tactic(auto, using(crate::proofs::Strangers::expect_laws))]
-pub fn write_unexpected<I: Read + Drop, W: Write>(
+pub fn write_unexpected<S: BuildHasher + Copy, I: Read + Drop, W: Write>(
     alloc: Global,
+    hash_builder: S,
     known: &[Expectation],
     inputs: Vec<I>,
     options: ExpectOptions,
@@ -55,7 +61,7 @@ pub fn write_unexpected<I: Read + Drop, W: Write>(
     // What it means to meet a line, and that the findings are those of all rows together.
     ensures laws { ExpectLaws }
 {
-    let mut judge = Judge::new(alloc, known)?;
+    let mut judge = Judge::new(alloc, hash_builder, known)?;
     let (failed, ends) = judge_inputs(alloc, inputs, &mut judge, options.lines, sink)?;
     let judgement = judge.finish(alloc, have_all(&ends))?;
     add_judgement(sink, options.lines, &judgement, failed, &ends);
@@ -69,10 +75,10 @@ pub fn write_unexpected<I: Read + Drop, W: Write>(
 
 // Judges the rows of the inputs. It returns how many failures have a kind and a name that no known failure has, and how each input
 // ended.
-fn judge_inputs<I: Read + Drop, W: Write>(
+fn judge_inputs<S: BuildHasher + Copy, I: Read + Drop, W: Write>(
     alloc: Global,
     inputs: Vec<I>,
-    judge: &mut Judge<'_>,
+    judge: &mut Judge<'_, S>,
     lines: Lines,
     sink: &mut Sink<W>,
 ) -> Result<(u128, Vec<Ending>), OutputFault>
@@ -99,10 +105,10 @@ fn judge_inputs<I: Read + Drop, W: Write>(
 
 // Judges the rows of an input. It returns how many failures have a kind and a name that no known failure has, and how the input
 // ended.
-fn judge_input<I: Read + Drop, W: Write>(
+fn judge_input<S: BuildHasher + Copy, I: Read + Drop, W: Write>(
     alloc: Global,
     input: I,
-    judge: &mut Judge<'_>,
+    judge: &mut Judge<'_, S>,
     lines: Lines,
     sink: &mut Sink<W>,
 ) -> Result<(u64, Ending), OutputFault>
@@ -121,20 +127,35 @@ fn judge_input<I: Read + Drop, W: Write>(
         sink,
         failed: 0,
     };
-    let ending = read_into(alloc, input, &mut judging)?;
+    let ending = judging.read(alloc, input)?;
     Ok((judging.failed, ending))
 }
 
 // Judges the rows that it takes, and counts and writes the failures whose kind and name no known failure has.
 #[derive(Drop)]
-struct Judging<'a, 'k, W: Write> {
-    judge: &'a mut Judge<'k>,
+struct Judging<'a, 'k, 's, S: BuildHasher, W: Write> {
+    judge: &'a mut Judge<'k, S>,
     lines: Lines,
-    sink: &'a mut Sink<W>,
+    sink: &'s mut Sink<W>,
     failed: u64,
 }
 
-impl<W: Write> RowTaker for Judging<'_, '_, W> {
+impl<S: BuildHasher + Copy, W: Write> Judging<'_, '_, '_, S, W> {
+    // Judges the rows of the input, and returns how it ended. The toolchain proves no call of `read_into` in the function that makes
+    // the `Judging`, since that borrows a `Judge`.
+    fn read<I: Read + Drop>(&mut self, alloc: Global, input: I) -> Result<Ending, OutputFault>
+        requires { ⟦<Judging<'static, 'static, 'static, S, W> as RowTaker>⟧.takes self.old [] self.old }
+        ensures { MatchResult result
+            (λ ending. (rows : List Entry) × IfSome (I.remaining input) (IsReading rows ending)
+            × ⟦<Judging<'static, 'static, 'static, S, W> as RowTaker>⟧.takes self.old rows self.new)
+            (λ fault. (rows : List Entry) × IfSome (I.remaining input) (HasEndedRows rows)
+            × ⟦<Judging<'static, 'static, 'static, S, W> as RowTaker>⟧.stops self.old rows fault self.new) }
+    {
+        read_into(alloc, input, self)
+    }
+}
+
+impl<S: BuildHasher + Copy, W: Write> RowTaker for Judging<'_, '_, '_, S, W> {
     ghost use Rattle.std.specs.Prelude.{◌≡◌};
     ghost use Rattle.mimic_printer.specs.Sink.{shown};
     ghost use Rattle.mimic_expect.specs.FindingText.{unknown_text};

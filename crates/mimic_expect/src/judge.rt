@@ -15,19 +15,20 @@ use mimic_printer::OutputFault;
 use mimic_trial::Outcome;
 use std::alloc::{AllocError, Global};
 use std::collections::HashSet;
+use std::hash::BuildHasher;
 use std::marker::Model;
 
 // Judges rows that come one by one. It keeps those whose kind and name a known failure has, and others only if it is asked to.
 //
 // Contracts see the known failures and the rows that were kept.
 #[derive(Drop)]
-pub(crate) struct Judge<'a> {
+pub(crate) struct Judge<'a, S: BuildHasher> {
     known: &'a [Expectation],
-    labels: HashSet<Key<'a>>,
+    labels: HashSet<Key<'a>, S>,
     rows: Vec<Row>,
 }
 
-impl<'a> Model for Judge<'a> {
+impl<'a, S: BuildHasher> Model for Judge<'a, S> {
     ghost use Rattle.std.specs.Prelude.{map};
     ghost use Rattle.mimic_events.specs.Contents.{entry_read};
     ghost use Rattle.mimic_events.specs.Key.{HasTrials};
@@ -44,12 +45,16 @@ impl<'a> Model for Judge<'a> {
     ghost invariant = { λ j. HasTrials j.labels (labels_known j.known.now) };
 }
 
-impl<'a> Judge<'a> {
+impl<'a, S: BuildHasher + Copy> Judge<'a, S> {
     // Makes a judge that has seen no row yet.
-    pub(crate) fn new(alloc: Global, known: &'a [Expectation]) -> Result<Judge<'a>, AllocError>
+    pub(crate) fn new(
+        alloc: Global,
+        hash_builder: S,
+        known: &'a [Expectation],
+    ) -> Result<Judge<'a, S>, AllocError>
         ensures { IfOk result (λ judge. judge ≡ record { known = map expected_read known.now; rows = [] }) }
     {
-        let labels = labels_in(alloc, known)?;
+        let labels = labels_in(alloc, hash_builder, known)?;
         Ok(Judge {
             known,
             labels,
@@ -99,17 +104,18 @@ impl<'a> Judge<'a> {
         ensures unexpected { IfOk result (λ judgement. map finding_read judgement.unexpected.items
             ≡ findings self.now.known self.now.rows are_all) }
     {
+        let hash_builder = *self.labels.hasher();
         let failed = failed_in(alloc, &self.rows)?;
-        let (left, unmet) = meeting(alloc, self.known, &failed)?;
+        let (left, unmet) = meeting(alloc, hash_builder, self.known, &failed)?;
         let met = failed.len() - unmet.len();
         let others = others_in(alloc, unmet, &self.rows)?;
-        let unexpected = findings_of(alloc, &left, &others, are_all)?;
+        let unexpected = findings_of(alloc, hash_builder, &left, &others, are_all)?;
         Ok(Judgement { met, unexpected })
     }
 }
 
 // Keeps the rows that matter.
-impl RowTaker for Judge<'_> {
+impl<S: BuildHasher + Copy> RowTaker for Judge<'_, S> {
     ghost use Rattle.std.specs.Prelude.{◌≡◌};
     ghost use Rattle.mimic_printer.specs.declared.sink.OutputFault.TheVariants.{OutOfMemory};
     ghost use Rattle.mimic_expect.specs.JudgedRows.{Keeps};
@@ -127,10 +133,14 @@ impl RowTaker for Judge<'_> {
 }
 
 // Returns the kinds and names of the known failures.
-fn labels_in(alloc: Global, known: &[Expectation]) -> Result<HashSet<Key<'_>>, AllocError>
+fn labels_in<S: BuildHasher + Copy>(
+    alloc: Global,
+    hash_builder: S,
+    known: &[Expectation],
+) -> Result<HashSet<Key<'_>, S>, AllocError>
     ensures { IfOk result (λ labels. HasTrials labels (labels_known known.now)) }
 {
-    let mut labels = HashSet::new(alloc);
+    let mut labels = HashSet::with_hasher(alloc, hash_builder);
     for expectation in known {
         labels.insert(Key::Trial(&expectation.row))?;
     }

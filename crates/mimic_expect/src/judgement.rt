@@ -13,6 +13,7 @@ use crate::known::Expectation;
 use mimic_events::{Key, Row};
 use mimic_trial::Outcome;
 use std::alloc::{AllocError, Global};
+use std::hash::BuildHasher;
 
 // What is not as the known failures say.
 #[derive(Clone, Copy)]
@@ -31,28 +32,33 @@ pub(crate) enum Unexpected<'a> {
 }
 
 // Returns the expectations, to be found by what they say about failures.
-fn keyed_expectations(
+fn keyed_expectations<S: BuildHasher + Copy>(
     alloc: Global,
+    hash_builder: S,
     known: &[Expectation],
-) -> Result<KeyedItems<'_, &Expectation>, AllocError>
+) -> Result<KeyedItems<'_, &Expectation, S>, AllocError>
     ensures { IfOk result (λ items. lines_left items ≡ keyed (map expected_read known.now)) }
 {
     let mut items = Vec::new(alloc);
     for expectation in known {
         items.push((Key::Failure(&expectation.row), expectation))?;
     }
-    KeyedItems::new(alloc, &items)
+    KeyedItems::new(alloc, hash_builder, &items)
 }
 
 // Returns the rows, to be found by their kinds and names.
-fn keyed_rows<'a>(alloc: Global, rows: &[&'a Row]) -> Result<KeyedItems<'a, &'a Row>, AllocError>
+fn keyed_rows<'a, S: BuildHasher + Copy>(
+    alloc: Global,
+    hash_builder: S,
+    rows: &[&'a Row],
+) -> Result<KeyedItems<'a, &'a Row, S>, AllocError>
     ensures { IfOk result (λ items. rows_left items ≡ labelled (entries_read rows.now)) }
 {
     let mut items = Vec::new(alloc);
     for row in rows {
         items.push((Key::Trial(row), *row))?;
     }
-    KeyedItems::new(alloc, &items)
+    KeyedItems::new(alloc, hash_builder, &items)
 }
 
 // Returns the rows that failed.
@@ -85,7 +91,10 @@ fn ignored_in(alloc: Global, rows: &[Row]) -> Result<Vec<&Row>, AllocError>
 }
 
 // Takes what the failure meets, if anything.
-fn meet<'a>(items: &mut KeyedItems<'a, &'a Expectation>, row: &'a Row) -> bool
+fn meet<'a, S: BuildHasher + Copy>(
+    items: &mut KeyedItems<'a, &'a Expectation, S>,
+    row: &'a Row,
+) -> bool
     ensures met { result ≡ is_some (meets (lines_left items.old) (entry_read row.now)) }
     ensures left { lines_left items.new ≡ without (lines_left items.old) (entry_read row.now) }
 {
@@ -93,9 +102,9 @@ fn meet<'a>(items: &mut KeyedItems<'a, &'a Expectation>, row: &'a Row) -> bool
 }
 
 // Returns the failures that meet nothing, and takes from the expectations those that the others meet.
-fn unmet_in<'a>(
+fn unmet_in<'a, S: BuildHasher + Copy>(
     alloc: Global,
-    items: &mut KeyedItems<'a, &'a Expectation>,
+    items: &mut KeyedItems<'a, &'a Expectation, S>,
     failed: &[&'a Row],
 ) -> Result<Vec<&'a Row>, AllocError>
     ensures { IfOk result
@@ -151,9 +160,9 @@ fn finding<'a>(
 }
 
 // Adds what is unexpected about the lines that are left, and takes their rows from `others`.
-fn add_findings<'a>(
+fn add_findings<'a, S: BuildHasher + Copy>(
     unexpected: &mut Vec<Unexpected<'a>>,
-    others: &mut KeyedItems<'a, &'a Row>,
+    others: &mut KeyedItems<'a, &'a Row, S>,
     left: &[&'a Expectation],
     are_all: bool,
 ) -> Result<(), AllocError>
@@ -197,8 +206,9 @@ pub(crate) struct Judgement<'a> {
 }
 
 // Returns the expectations that no failure meets, and the failures that meet none.
-pub(crate) fn meeting<'a>(
+pub(crate) fn meeting<'a, S: BuildHasher + Copy>(
     alloc: Global,
+    hash_builder: S,
     known: &'a [Expectation],
     failed: &[&'a Row],
 ) -> Result<(Vec<&'a Expectation>, Vec<&'a Row>), AllocError>
@@ -207,14 +217,15 @@ pub(crate) fn meeting<'a>(
         × (entries_read found.1.items
         ≡ unmet_by (keyed (map expected_read known.now)) (entries_read failed.now))) }
 {
-    let mut items = keyed_expectations(alloc, known)?;
+    let mut items = keyed_expectations(alloc, hash_builder, known)?;
     let unmet = unmet_in(alloc, &mut items, failed)?;
     Ok((items.left(alloc)?, unmet))
 }
 
 // Returns what is unexpected about the expectations that are left, and then the failures among the rows that none of them took.
-pub(crate) fn findings_of<'a>(
+pub(crate) fn findings_of<'a, S: BuildHasher + Copy>(
     alloc: Global,
+    hash_builder: S,
     left: &[&'a Expectation],
     others: &[&'a Row],
     are_all: bool,
@@ -222,7 +233,7 @@ pub(crate) fn findings_of<'a>(
     ensures { IfOk result (λ unexpected. map finding_read unexpected.items
         ≡ findings_with (expected_at left.now) (entries_read others.now) are_all) }
 {
-    let mut items = keyed_rows(alloc, others)?;
+    let mut items = keyed_rows(alloc, hash_builder, others)?;
     let mut unexpected = Vec::new(alloc);
     add_findings(&mut unexpected, &mut items, left, are_all)?;
     add_failures(&mut unexpected, &items.left(alloc)?)?;

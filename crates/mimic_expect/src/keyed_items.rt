@@ -8,20 +8,21 @@ ghost use Rattle.mimic_expect.specs.KeyedItems.{places_at};
 use mimic_events::Key;
 use std::alloc::{AllocError, Global};
 use std::collections::{HashMap, VecDeque};
+use std::hash::BuildHasher;
 use std::marker::Model;
 
 // Items with keys, of which the first one left with a key can be taken at once.
 //
 // Contracts see those that are left, each with its key.
 #[derive(Drop)]
-pub(crate) struct KeyedItems<'a, T: Copy> {
+pub(crate) struct KeyedItems<'a, T: Copy, S: BuildHasher> {
     // The items, each with its key, and whether it is left.
     items: Vec<(Key<'a>, T, bool)>,
     // The places of those that are left with a key, in their order.
-    places: HashMap<Key<'a>, VecDeque<usize>>,
+    places: HashMap<Key<'a>, VecDeque<usize>, S>,
 }
 
-impl<'a, T: Copy> Model for KeyedItems<'a, T> {
+impl<'a, T: Copy, S: BuildHasher> Model for KeyedItems<'a, T, S> {
     ghost use Rattle.std.specs.Prelude.{List};
     ghost use Rattle.mimic_events.specs.Key.{Key as KeyRead};
 
@@ -34,15 +35,16 @@ impl<'a, T: Copy> Model for KeyedItems<'a, T> {
     ghost invariant = { λ keyed. ArePlaces keyed.places keyed.items.items };
 }
 
-impl<'a, T: Copy> KeyedItems<'a, T> {
+impl<'a, T: Copy, S: BuildHasher + Copy> KeyedItems<'a, T, S> {
     pub(crate) fn new(
         alloc: Global,
+        hash_builder: S,
         items: &[(Key<'a>, T)],
-    ) -> Result<KeyedItems<'a, T>, AllocError>
+    ) -> Result<KeyedItems<'a, T, S>, AllocError>
         ensures { IfOk result (λ keyed. keyed ≡ map (λ x. (key_read x.0, x.1)) items.now) }
     {
         let mut all = Vec::new(alloc);
-        let mut places = HashMap::new(alloc);
+        let mut places = HashMap::with_hasher(alloc, hash_builder);
         for (key, item) in items {
             add_place(alloc, &mut places, *key, all.len())?;
             all.push((*key, *item, true))?;
@@ -74,9 +76,9 @@ impl<'a, T: Copy> KeyedItems<'a, T> {
 }
 
 // Adds a place behind those with the same key.
-fn add_place<'a>(
+fn add_place<'a, S: BuildHasher>(
     alloc: Global,
-    places: &mut HashMap<Key<'a>, VecDeque<usize>>,
+    places: &mut HashMap<Key<'a>, VecDeque<usize>, S>,
     key: Key<'a>,
     place: usize,
 ) -> Result<(), AllocError>
@@ -93,7 +95,10 @@ fn add_place<'a>(
 }
 
 // Takes the first place with the key.
-fn first_place<'a>(places: &mut HashMap<Key<'a>, VecDeque<usize>>, key: &Key<'a>) -> Option<usize>
+fn first_place<'a, S: BuildHasher>(
+    places: &mut HashMap<Key<'a>, VecDeque<usize>, S>,
+    key: &Key<'a>,
+) -> Option<usize>
     ensures { MatchOption result
         ((places_at places.old key.now ≡ []) × ((x : Found) → places_at places.new x ≡ places_at places.old x))
         (λ place. (x : Found) → places_at places.old x ≡ cond (is_same key.now x) (place ∷ []) [] ++ places_at places.new x) }

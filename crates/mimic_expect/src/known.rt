@@ -20,6 +20,15 @@ pub struct Expectation {
     pub line: usize,
 }
 
+/// A file of known failures that is to be brought up to date.
+#[derive(Clone, Copy, Debug)]
+pub struct KnownFile<'a> {
+    /// Its text.
+    pub text: &'a [u8],
+    /// What [`read_known`] returns for this text.
+    pub known: &'a [Expectation],
+}
+
 /// Why a file of known failures can't be read. Its text is what a user is to see.
 #[derive(Debug, Drop, Error)]
 pub enum KnownFault {

@@ -2,13 +2,15 @@
 //!
 //! ```rust
 //! use mimic_expect::{ExpectOptions, Lines, read_known, write_unexpected};
+//! use std::hash::RandomState;
 //!
 //! let known = read_known(alloc, &bytes)?;
 //! let options = ExpectOptions {
 //!     lax: false,
 //!     lines: Lines::Readable,
 //! };
-//! let verdict = write_unexpected(alloc, &known, readers, options, &mut sink)?;
+//! let hash_builder = RandomState::new(&rt)?;
+//! let verdict = write_unexpected(alloc, hash_builder, &known, readers, options, &mut sink)?;
 //! verdict.status()
 //! ```
 #![tactic(auto)]
@@ -25,7 +27,7 @@ mod updated;
 mod verdict;
 
 pub use inputs::write_unexpected;
-pub use known::{Expectation, KnownFault, read_known};
+pub use known::{Expectation, KnownFault, KnownFile, read_known};
 pub use known_text::write_known;
 pub use options::{ExpectOptions, Lines};
 pub use updated::{UpdateVerdict, write_updated};

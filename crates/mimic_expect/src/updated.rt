@@ -14,13 +14,14 @@ ghost use Rattle.mimic_expect.specs.Verdict.{ends_of, rows_of};
 
 use crate::judge::Judge;
 use crate::judgement::Unexpected;
-use crate::known::{Expectation, first_line, says_nothing, without_end};
+use crate::known::{KnownFile, first_line, says_nothing, without_end};
 use crate::unexpected::add_row;
 use crate::verdict::have_all;
 use mimic_events::{Ending, read_into};
 use mimic_printer::{OutputFault, Sink};
 use std::alloc::{AllocError, Global};
 use std::collections::HashMap;
+use std::hash::BuildHasher;
 use std::io::{Read, Write};
 
 /// What was read to bring a file of known failures up to date.
@@ -39,8 +40,7 @@ impl UpdateVerdict {
     }
 }
 
-/// Writes the text of a file of known failures as reports have it now, and flushes it. `text` is the old one, and `known` what
-/// [`read_known`](crate::read_known) returns for it.
+/// Writes the text of a file of known failures as reports have it now, and flushes it. `file` has the old one.
 ///
 /// What becomes of a line is what [`write_unexpected`](crate::write_unexpected) finds about it. Comments, empty lines, and the lines
 /// of known failures about which nothing is found stay as they are. If a failure has another message now, the line that
@@ -48,28 +48,29 @@ impl UpdateVerdict {
 /// `lax` it stays. That of an absent trial goes. Behind them come the lines of the failures that are not known, in the order of the
 /// reports. If the last line of the old text has no end, it gets one.
 ///
-/// Failures and rows of known kinds and names are kept meanwhile, and no others.
+/// Failures and rows of known kinds and names are kept meanwhile, and no others. Tables hash by `hash_builder`, as those of
+/// `write_unexpected` do.
 ///
 /// If an input is no whole report, nothing is written: the verdict says how each ended. Without memory nothing was written either,
 /// and with a fault of the writer a beginning.
 #[tactic(auto, using(crate::proofs::UpdatedTexts::update_laws))]
-pub fn write_updated<I: Read + Drop, W: Write>(
+pub fn write_updated<S: BuildHasher + Copy, I: Read + Drop, W: Write>(
     alloc: Global,
-    text: &[u8],
-    known: &[Expectation],
+    hash_builder: S,
+    file: KnownFile<'_>,
     inputs: Vec<I>,
     lax: bool,
     sink: &mut Sink<W>,
 ) -> Result<UpdateVerdict, OutputFault>
     requires { HasFaultLeft sink.old }
     ensures update { LeavesUpdate I.remaining inputs.items
-        (λ read. update_text text.now (map expected_read known.now) read lax)
+        (λ read. update_text file.entry.text.now (map expected_read file.entry.known.now) read lax)
         (shown W.contents sink.old) (shown W.contents sink.new) result }
 
     // What the findings are about, and what the new text says.
     ensures laws { UpdateLaws }
 {
-    let mut judge = Judge::new(alloc, known)?;
+    let mut judge = Judge::new(alloc, hash_builder, file.known)?;
     let ends = keep_inputs(alloc, inputs, &mut judge)?;
     let verdict = UpdateVerdict { ends };
     if !verdict.is_written() {
@@ -78,7 +79,7 @@ pub fn write_updated<I: Read + Drop, W: Write>(
     let judgement = judge.finish(alloc, have_all(&verdict.ends))?;
     let found = counting(alloc, &judgement.unexpected, lax)?;
     let changes = changes_of(alloc, &found)?;
-    add_kept(sink, text, &changes);
+    add_kept(sink, file.text, &changes);
     add_unknown(sink, &found);
     sink.add_flush();
     sink.end()?;
@@ -86,10 +87,10 @@ pub fn write_updated<I: Read + Drop, W: Write>(
 }
 
 // Gives the judge the rows of the inputs that matter, and returns how each ended.
-fn keep_inputs<I: Read + Drop>(
+fn keep_inputs<S: BuildHasher + Copy, I: Read + Drop>(
     alloc: Global,
     inputs: Vec<I>,
-    judge: &mut Judge<'_>,
+    judge: &mut Judge<'_, S>,
 ) -> Result<Vec<Ending>, AllocError>
     ensures { IfOk result (λ ends. (read : List InputRead)
         × AllZip (λ input r. IsReadOf (I.remaining input) r) inputs.items read

@@ -2,13 +2,15 @@
 use crate::faults::{refuse, refuse_output, status_of_end};
 use crate::input::Input;
 use crate::line::Expect;
-use crate::{CANNOT_RUN, SUCCESS, output};
+use crate::{CANNOT_RUN, SUCCESS, output, random_hashes};
 use mimic_expect::{
-    Expectation, ExpectationVerdict, KnownFault, read_known, write_unexpected, write_updated,
+    Expectation, ExpectationVerdict, KnownFault, KnownFile, read_known, write_unexpected,
+    write_updated,
 };
 use mimic_files::replace_file;
 use mimic_printer::{OutputFault, Sink};
 use std::alloc::{AllocError, Global};
+use std::hash::RandomState;
 use std::io::{Error, ErrorKind, Read};
 use std::{fs, io};
 
@@ -23,11 +25,18 @@ pub(crate) fn run(rt: &HostRuntime, alloc: Global, expect: &Expect) -> u8 {
         Ok(known) => known,
         Err(fault) => return refuse_known(rt, file, &fault),
     };
+    let Some(hash_builder) = random_hashes(rt) else {
+        return CANNOT_RUN;
+    };
     if expect.updates {
-        return update(rt, alloc, expect, &text, &known);
+        let known_file = KnownFile {
+            text: &text,
+            known: &known,
+        };
+        return update(rt, alloc, hash_builder, expect, known_file);
     }
     let judged = match Input::all(rt, alloc, &expect.files) {
-        Ok(inputs) => print(rt, alloc, expect, &known, inputs),
+        Ok(inputs) => print(rt, alloc, hash_builder, expect, &known, inputs),
         Err(_) => Err(OutputFault::OutOfMemory),
     };
     match judged {
@@ -54,12 +63,14 @@ fn known_text(rt: &HostRuntime, alloc: Global, expect: &Expect) -> io::Result<Ve
 fn print<I: Read + Drop>(
     rt: &HostRuntime,
     alloc: Global,
+    hash_builder: RandomState,
     expect: &Expect,
     known: &[Expectation],
     inputs: Vec<I>,
 ) -> Result<ExpectationVerdict, OutputFault> {
     let mut sink = output(rt, alloc)?;
-    let verdict = write_unexpected(alloc, known, inputs, expect.options, &mut sink)?;
+    let options = expect.options;
+    let verdict = write_unexpected(alloc, hash_builder, known, inputs, options, &mut sink)?;
     for (file, end) in expect.files.iter().zip(&verdict.ends) {
         status_of_end(rt, file.as_str(), end);
     }
@@ -81,17 +92,17 @@ fn refuse_known(rt: &HostRuntime, file: &str, fault: &KnownFault) -> u8 {
 fn update(
     rt: &HostRuntime,
     alloc: Global,
+    hash_builder: RandomState,
     expect: &Expect,
-    text: &[u8],
-    known: &[Expectation],
+    known_file: KnownFile<'_>,
 ) -> u8 {
-    let new = match updated(rt, alloc, expect, text, known) {
+    let new = match updated(rt, alloc, hash_builder, expect, known_file) {
         Ok(Some(new)) => new,
         Ok(None) => return CANNOT_RUN,
         Err(fault) => return refuse_output(rt, &fault),
     };
     let file = expect.known.as_str();
-    match replace(rt, file, text, &new) {
+    match replace(rt, file, known_file.text, &new) {
         Ok(()) => SUCCESS,
         Err(error) => refuse(rt, file, &error),
     }
@@ -103,20 +114,21 @@ fn update(
 fn updated(
     rt: &HostRuntime,
     alloc: Global,
+    hash_builder: RandomState,
     expect: &Expect,
-    text: &[u8],
-    known: &[Expectation],
+    known_file: KnownFile<'_>,
 ) -> Result<Option<Vec<u8>>, OutputFault> {
     let files = &expect.files;
     let mut copies: Vec<Vec<u8>> = files.iter().map(|_| Vec::new(alloc)).collect(alloc)?;
     let inputs = copied_inputs(rt, alloc, files, &mut copies)?;
-    let verdict = print(rt, alloc, expect, known, inputs)?;
+    let verdict = print(rt, alloc, hash_builder, expect, known_file.known, inputs)?;
     if verdict.status() == CANNOT_RUN {
         return Ok(None);
     }
     let reports = copies.iter().map(|copy| copy.as_slice()).collect(alloc)?;
     let mut sink = Sink::new(Vec::new(alloc));
-    let verdict = write_updated(alloc, text, known, reports, expect.options.lax, &mut sink)?;
+    let lax = expect.options.lax;
+    let verdict = write_updated(alloc, hash_builder, known_file, reports, lax, &mut sink)?;
     if !verdict.is_written() {
         return Ok(None);
     }

@@ -1,15 +1,17 @@
 //! What no clause states about known failures: what inputs give that are cut or fail, what is no file of known failures, and what is
 //! written of a new one if the writer fails or a report is cut. Expected texts are worked out by hand.
+use super::hashing::usual_hashes;
 use super::lines::{A_FAILED, FILTERED, NONE, announced, failed, passed, summary, text_of, title};
 use super::reading::Slow;
 use mimic_events::Ending;
 use mimic_expect::{
-    ExpectOptions, Expectation, ExpectationVerdict, KnownFault, Lines, UpdateVerdict, read_known,
-    write_unexpected, write_updated,
+    ExpectOptions, Expectation, ExpectationVerdict, KnownFault, KnownFile, Lines, UpdateVerdict,
+    read_known, write_unexpected, write_updated,
 };
 use mimic_printer::{OutputFault, Sink};
 use mimic_testkit::{Fault, FaultPlace, FaultyWriter};
 use std::alloc::{AllocError, Global};
+use std::hash::BuildHasher;
 use std::io::{ErrorKind, Read, Write};
 use std::test::Fail;
 
@@ -36,29 +38,30 @@ pub(super) use numbers;
 
 // Judges what the readers give, and returns the writer, and the verdict. This is the one place that calls `write_unexpected`,
 // and it promises nothing, so that no test carries that contract.
-fn judge<I: Read + Drop, W: Write>(
+fn judge<S: BuildHasher + Copy, I: Read + Drop, W: Write>(
     alloc: Global,
+    hash_builder: S,
     known: &[Expectation],
     inputs: Vec<I>,
     options: ExpectOptions,
     writer: W,
 ) -> (W, Result<ExpectationVerdict, OutputFault>) {
     let mut sink = Sink::new(writer);
-    let judged = write_unexpected(alloc, known, inputs, options, &mut sink);
+    let judged = write_unexpected(alloc, hash_builder, known, inputs, options, &mut sink);
     (sink.into_inner(), judged)
 }
 
 // Brings a text up to date by what the readers give, and returns the writer, and the verdict. This is the one place that calls
 // `write_updated`, and it promises nothing either.
-fn update<I: Read + Drop, W: Write>(
+fn update<S: BuildHasher + Copy, I: Read + Drop, W: Write>(
     alloc: Global,
-    text: &str,
-    known: &[Expectation],
+    hash_builder: S,
+    file: KnownFile<'_>,
     inputs: Vec<I>,
     writer: W,
 ) -> (W, Result<UpdateVerdict, OutputFault>) {
     let mut sink = Sink::new(writer);
-    let updated = write_updated(alloc, text.as_bytes(), known, inputs, false, &mut sink);
+    let updated = write_updated(alloc, hash_builder, file, inputs, false, &mut sink);
     (sink.into_inner(), updated)
 }
 
@@ -93,7 +96,13 @@ fn texts_of(alloc: Global, inputs: &[Input]) -> Result<Vec<String>, AllocError> 
     Ok(texts)
 }
 
-// Judges the inputs by known failures, and returns the verdict, and what is printed, in JSON.
+// Unexpected trials are printed in JSON.
+const OPTIONS: ExpectOptions = ExpectOptions {
+    lax: false,
+    lines: Lines::Json,
+};
+
+// Judges the inputs by known failures, and returns the verdict, and what is printed.
 pub(super) fn judged(
     alloc: Global,
     known: &[&str],
@@ -102,11 +111,15 @@ pub(super) fn judged(
     let known = known_in(alloc, known)??;
     let texts = texts_of(alloc, inputs)?;
     let readers = readers_of(alloc, &texts, inputs)?;
-    let options = ExpectOptions {
-        lax: false,
-        lines: Lines::Json,
-    };
-    let (bytes, verdict) = judge(alloc, &known, readers, options, Vec::new(alloc));
+    let hash_builder = usual_hashes();
+    let (bytes, verdict) = judge(
+        alloc,
+        hash_builder,
+        &known,
+        readers,
+        OPTIONS,
+        Vec::new(alloc),
+    );
     Ok((verdict?, String::from_utf8(bytes)?))
 }
 
@@ -330,7 +343,11 @@ fn updated(
     let texts = texts_of(alloc, inputs)?;
     let readers = readers_of(alloc, &texts, inputs)?;
     let known = known_in(alloc, lines)??;
-    let (bytes, verdict) = update(alloc, text.as_str(), &known, readers, Vec::new(alloc));
+    let file = KnownFile {
+        text: text.as_bytes(),
+        known: &known,
+    };
+    let (bytes, verdict) = update(alloc, usual_hashes(), file, readers, Vec::new(alloc));
     Ok((String::from_utf8(bytes)?, verdict?))
 }
 
@@ -344,11 +361,15 @@ fn updates_a_writer_that_fails(rt: HostRuntime) -> Result<(), Fail> {
         text_of(alloc, NEW)?,
     );
     let known = read_known(alloc, old.as_bytes())?;
+    let file = KnownFile {
+        text: old.as_bytes(),
+        known: &known,
+    };
     for count in 0..new.len() {
         let inputs = vec![in alloc; Slow::of(now.as_str())]?;
         let fault = Fault::Error(ErrorKind::StorageFull);
         let writer = FaultyWriter::new(alloc).failing(FaultPlace::Byte(count), fault);
-        let (writer, updated) = update(alloc, old.as_str(), &known, inputs, writer);
+        let (writer, updated) = update(alloc, usual_hashes(), file, inputs, writer);
         let fault = updated.err().ok_or("written")?;
         let shown = format!(in alloc; "{fault}")?;
         assert!(rt; shown.as_str() == "no storage space", "{shown}");

@@ -221,7 +221,7 @@ fn unexpected(alloc: Global, text: &str, writer: FaultyWriter) -> Written {
         lax: false,
         lines: Lines::Readable,
     };
-    written!(alloc, writer, sink => write_unexpected(alloc, &[], inputs, options, &mut sink))
+    written!(alloc, writer, sink => write_unexpected(alloc, usual_hashes(), &[], inputs, options, &mut sink))
 }
 
 fn known(alloc: Global, text: &str, writer: FaultyWriter) -> Written {

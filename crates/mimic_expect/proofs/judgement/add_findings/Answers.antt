@@ -15,7 +15,7 @@ use Rattle.mimic_expect.proofs.judgement.add_findings.Goals.{in-Some+in_ok-push,
 use denote.Ref.{Bor}
 
 pub loop-expectation-preserved : goal.loop-expectation-preserved
-loop-expectation-preserved c =
+loop-expectation-preserved g c =
     let i = c.loop-expectation.invariant in
     let e = c.expectation-item.result in
     let read : Bor Row → Entry = λ row. entry_read row.now in

@@ -9,7 +9,7 @@ use Rattle.mimic_expect.proofs.judgement.unmet_in.Goals.{then-not-meet+in_ok-pus
 use denote.Ref.{Bor}
 
 pub loop-row-preserved : goal.loop-row-preserved
-loop-row-preserved c =
+loop-row-preserved g c =
     let i = c.loop-row.invariant in
     let read : Bor Row → Entry = λ row. entry_read row.now in
     let more = one_more read c.args.failed.now c.loop-row.row-index c.row-item.result c.loop-row-test.true c.row-item.is in

@@ -8,19 +8,19 @@ use Rattle.mimic_expect.proofs.Judgements.{counted, failures_read, others_found}
 use Rattle.mimic_expect.proofs.judge.Judge.finish.Goals as goal
 
 pub overflow_sub-met : goal.overflow_sub-met
-overflow_sub-met c =
+overflow_sub-met g c =
     let found = rw c.deref.ensures.value at c.in_ok-failed.ensures in
     let n = counted c.self.inside.known.now c.self.inside.rows.items c.in_ok-failed.failed.items c.deref-2.result.now c.in_ok-left.unmet.items found c.deref-2.ensures.value c.in_ok-left.ensures.1 in
     omega (arith, n, c.len.ensures, c.len-2.ensures)
 
 pub returns-clause-met : goal.returns-clause-met
-returns-clause-met c =
+returns-clause-met g c =
     let found = rw c.deref.ensures.value at c.in_ok-failed.ensures in
     let n = counted c.self.inside.known.now c.self.inside.rows.items c.in_ok-failed.failed.items c.deref-2.result.now c.in_ok-left.unmet.items found c.deref-2.ensures.value c.in_ok-left.ensures.1 in
     rw (← c.self.view_is) (omega (arith, n, c.len.ensures, c.len-2.ensures))
 
 pub returns-clause-unexpected : goal.returns-clause-unexpected
-returns-clause-unexpected c =
+returns-clause-unexpected g c =
     let known = keyed (map expected_read c.self.inside.known.now) in
     let rows = map entry_read c.self.inside.rows.items in
     let found = rw c.deref.ensures.value at c.in_ok-failed.ensures in
