@@ -5,6 +5,7 @@
 """
 
 import os
+import pathlib
 import pty
 import re
 import select
@@ -46,11 +47,51 @@ failures:
 test result: FAILED. 2 passed; 1 failed; 0 ignored; 0 measured; 0 filtered out; finished in 0.00s
 
 """
-COLOURED = SHOWN.replace(" ok", " \x1b[32mok\x1b[0m").replace(" FAILED", " \x1b[31mFAILED\x1b[0m")
+# Characters from U+0080 to U+009F in a kind, a name and a message, which also has what looks like one by number, and a colour.
+CONTROLS = SUMS.replace('"2 + 2"', '"2\x9b2", "kind": "\x80"').replace("left: 4", "\\u001b[1mleft\\u001b[0m: \\\\u{9b}\x9f")
+CONTROLS_SHOWN = """
+running 3 tests
+test          1 + 1    ... ok
+test [\\u{80}] 2\\u{9b}2 ... FAILED
+test          7 + 0    ... ok
+
+failures:
+
+---- 2\\u{9b}2 ----
+assertion `left == right` failed
+  \x1b[1mleft\x1b[0m: \\u{5c}u{9b}\\u{9f}
+ right: 5
+
+
+failures:
+    2\\u{9b}2
+
+test result: FAILED. 2 passed; 1 failed; 0 ignored; 0 measured; 0 filtered out; finished in 0.00s
+
+"""
+FAILURES = CONTROLS_SHOWN[CONTROLS_SHOWN.index("\nfailures:") : CONTROLS_SHOWN.index("\ntest result:")]
+FAILURES = FAILURES.replace("2\\u{9b}2", "[\\u{80}] 2\\u{9b}2")
 WATCHED = "FAILED 2 + 2\n    assertion `left == right` failed\n      left: 4\n     right: 5\n"
-# What a terminal shows of the sums, in which settings.
-SETTINGS = [({"TERM": "xterm"}, COLOURED), ({"TERM": "xterm", "NO_COLOR": ""}, COLOURED)]
-SETTINGS += [({"TERM": "xterm", "NO_COLOR": "1"}, SHOWN), ({"TERM": "dumb"}, SHOWN), ({}, SHOWN)]
+
+
+def coloured(shown):
+    return shown.replace(" ok", " \x1b[32mok\x1b[0m").replace(" FAILED", " \x1b[31mFAILED\x1b[0m")
+
+
+# Words of `reports show`, settings, a report, and what a terminal shows.
+SHOWS = [
+    ("sums", {"TERM": "xterm"}, SUMS, coloured(SHOWN)),
+    ("sums", {"TERM": "xterm", "NO_COLOR": ""}, SUMS, coloured(SHOWN)),
+    ("sums", {"TERM": "xterm", "NO_COLOR": "1"}, SUMS, SHOWN),
+    ("sums", {"TERM": "dumb"}, SUMS, SHOWN),
+    ("sums", {}, SUMS, SHOWN),
+    ("--color always sums", {"TERM": "xterm"}, SUMS, coloured(SHOWN)),
+    ("--color never sums", {"TERM": "xterm"}, SUMS, SHOWN),
+    ("controls", {"TERM": "xterm"}, CONTROLS, coloured(CONTROLS_SHOWN)),
+    ("controls", {"TERM": "dumb"}, CONTROLS, CONTROLS_SHOWN),
+    ("--color never controls", {"TERM": "xterm"}, CONTROLS, CONTROLS_SHOWN),
+    ("--failed controls", {"TERM": "xterm"}, CONTROLS, FAILURES),
+]
 
 
 def on_terminal(words, settings, given):
@@ -83,10 +124,10 @@ def on_terminal(words, settings, given):
     return process.returncode, got.decode(), said.decode()
 
 
-def check_colours(settings, shown, *words):
-    with open("sums", "w", encoding="utf-8") as file:
-        file.write(SUMS)
-    found = on_terminal(["show", *words, "sums"], settings, lambda *_: None)
+def check_show(words, settings, report, shown):
+    words = words.split()
+    pathlib.Path(words[-1]).write_text(report, encoding="utf-8")
+    found = on_terminal(["show", *words], settings, lambda *_: None)
     assert found == (101, shown, ""), f"{found!r}"
 
 
@@ -124,11 +165,8 @@ def check_gone(count):
 
 
 def checks():
-    for settings, shown in SETTINGS:
-        yield f"reports show on a terminal with {settings}", lambda settings=settings, shown=shown: check_colours(settings, shown)
-    for when, shown in ("always", COLOURED), ("never", SHOWN):
-        check = lambda when=when, shown=shown: check_colours({"TERM": "xterm"}, shown, "--color", when)
-        yield f"reports show --color {when} on a terminal", check
+    for row in SHOWS:
+        yield f"reports show {row[0]} on a terminal with {row[1]}", lambda row=row: check_show(*row)
     yield "reports watch on a terminal", check_live
     yield "reports watch on a terminal without escapes", check_dumb
     for count in range(17):

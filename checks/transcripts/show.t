@@ -372,6 +372,38 @@ Of a report that is cut it shows the trials that had ended, their failures, and 
   2> reports: -: the report is cut
   [1]
 
+Characters from U+0080 to U+009F are as the report has them. On a terminal they are by number (checks/terminal.py).
+
+  $ report $'failed [\xc2\x80] 2\xc2\x9b2: \\\\u{9b}\xc2\x9f' >controls
+  $ reports show --color always controls
+  
+  running 1 test
+  test [\xc2\x80] 2\xc2\x9b2 ... \x1b[31mFAILED\x1b[0m (esc)
+  
+  failures:
+  
+  ---- 2\xc2\x9b2 ---- (esc)
+  \\u{9b}\xc2\x9f (esc)
+  
+  
+  failures:
+      2\xc2\x9b2 (esc)
+  
+  test result: \x1b[31mFAILED\x1b[0m. 0 passed; 1 failed; 0 ignored; 0 measured; 0 filtered out; finished in 0.00s (esc)
+  
+  [101]
+  $ reports show --failed controls
+  
+  failures:
+  
+  ---- [\xc2\x80] 2\xc2\x9b2 ---- (esc)
+  \\u{9b}\xc2\x9f (esc)
+  
+  
+  failures:
+      [\xc2\x80] 2\xc2\x9b2 (esc)
+  [101]
+
 What comes behind a wrong line doesn't count. A report without its first line is none, and nor is an empty file.
 
   $ sums | sed '2s/1 + 1/1 + 2/' >wrong
