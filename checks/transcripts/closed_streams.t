@@ -1,12 +1,99 @@
 Standard streams that are closed when a program begins. Reading or writing one fails, and no file that the program opens gets its
 descriptor: nothing that is printed goes into a report, and no file is read as standard input.
 
-  $ bench_suite 30 json 1 wait 8 slow_limit 1 logfile log 2>&-
-  $ readreport <log | cut -d ';' -f 1-5
-  30 trials: 30 passed; 0 failed; 0 ignored; 0 measured; 0 filtered out
-  $ bench_suite 30 json 2 wait 8 slow_limit 1 logfile log <&- >&- 2>&-
-  $ readreport <log | cut -d ';' -f 1-5
-  30 trials: 30 passed; 0 failed; 0 ignored; 0 measured; 0 filtered out
+  $ content() {
+  >     if [ -s $1 ]; then readreport <$1 2>/dev/null | cut -d ';' -f 1 || echo "$(wc -l <$1) lines"; else echo nothing; fi
+  > }
+  $ closed() {
+  >     for streams in '<&-' '>&-' '2>&-' '<&- >&-' '<&- 2>&-' '>&- 2>&-' '<&- >&- 2>&-'; do
+  >         rm -f out err log; eval '"$@" >out 2>err' "$streams"
+  >         echo "$? of $streams: $(content out) printed, $(content log) logged"
+  >         sed -E '/^n=/d; s/test_[0-9]+ has/a trial has/' err | sort -u
+  >     done
+  > }
+  $ closed bench_suite 30 json 1 wait 8 slow_limit 1
+  0 of <&-: 30 trials: 30 passed printed, nothing logged
+  bench_suite: a trial has been running for over 1 ms
+  1 of >&-: nothing printed, nothing logged
+  bench_suite: cannot write the report to standard output: Bad file descriptor (os error 9)
+  0 of 2>&-: 30 trials: 30 passed printed, nothing logged
+  1 of <&- >&-: nothing printed, nothing logged
+  bench_suite: cannot write the report to standard output: Bad file descriptor (os error 9)
+  0 of <&- 2>&-: 30 trials: 30 passed printed, nothing logged
+  1 of >&- 2>&-: nothing printed, nothing logged
+  1 of <&- >&- 2>&-: nothing printed, nothing logged
+  $ closed bench_suite 30 json 2 wait 8 slow_limit 1
+  0 of <&-: 30 trials: 30 passed printed, nothing logged
+  bench_suite: a trial has been running for over 1 ms
+  1 of >&-: nothing printed, nothing logged
+  bench_suite: cannot write the report to standard output: Bad file descriptor (os error 9)
+  0 of 2>&-: 30 trials: 30 passed printed, nothing logged
+  1 of <&- >&-: nothing printed, nothing logged
+  bench_suite: cannot write the report to standard output: Bad file descriptor (os error 9)
+  0 of <&- 2>&-: 30 trials: 30 passed printed, nothing logged
+  1 of >&- 2>&-: nothing printed, nothing logged
+  1 of <&- >&- 2>&-: nothing printed, nothing logged
+  $ closed bench_suite 30 json 1 wait 8 slow_limit 1 logfile log
+  0 of <&-: nothing printed, 30 trials: 30 passed logged
+  bench_suite: a trial has been running for over 1 ms
+  0 of >&-: nothing printed, 30 trials: 30 passed logged
+  bench_suite: a trial has been running for over 1 ms
+  0 of 2>&-: nothing printed, 30 trials: 30 passed logged
+  0 of <&- >&-: nothing printed, 30 trials: 30 passed logged
+  bench_suite: a trial has been running for over 1 ms
+  0 of <&- 2>&-: nothing printed, 30 trials: 30 passed logged
+  0 of >&- 2>&-: nothing printed, 30 trials: 30 passed logged
+  0 of <&- >&- 2>&-: nothing printed, 30 trials: 30 passed logged
+  $ closed bench_suite 30 json 2 wait 8 slow_limit 1 logfile log
+  0 of <&-: nothing printed, 30 trials: 30 passed logged
+  bench_suite: a trial has been running for over 1 ms
+  0 of >&-: nothing printed, 30 trials: 30 passed logged
+  bench_suite: a trial has been running for over 1 ms
+  0 of 2>&-: nothing printed, 30 trials: 30 passed logged
+  0 of <&- >&-: nothing printed, 30 trials: 30 passed logged
+  bench_suite: a trial has been running for over 1 ms
+  0 of <&- 2>&-: nothing printed, 30 trials: 30 passed logged
+  0 of >&- 2>&-: nothing printed, 30 trials: 30 passed logged
+  0 of <&- >&- 2>&-: nothing printed, 30 trials: 30 passed logged
+  $ closed harness --format json
+  101 of <&-: 17 trials: 4 passed printed, nothing logged
+  1 of >&-: nothing printed, nothing logged
+  harness: cannot write the report
+  101 of 2>&-: 17 trials: 4 passed printed, nothing logged
+  1 of <&- >&-: nothing printed, nothing logged
+  harness: cannot write the report
+  101 of <&- 2>&-: 17 trials: 4 passed printed, nothing logged
+  1 of >&- 2>&-: nothing printed, nothing logged
+  1 of <&- >&- 2>&-: nothing printed, nothing logged
+  $ closed harness --format json --logfile log
+  101 of <&-: nothing printed, 17 trials: 4 passed logged
+  101 of >&-: nothing printed, 17 trials: 4 passed logged
+  101 of 2>&-: nothing printed, 17 trials: 4 passed logged
+  101 of <&- >&-: nothing printed, 17 trials: 4 passed logged
+  101 of <&- 2>&-: nothing printed, 17 trials: 4 passed logged
+  101 of >&- 2>&-: nothing printed, 17 trials: 4 passed logged
+  101 of <&- >&- 2>&-: nothing printed, 17 trials: 4 passed logged
+  $ closed harness --list
+  0 of <&-: 17 lines printed, nothing logged
+  1 of >&-: nothing printed, nothing logged
+  harness: cannot write the report
+  0 of 2>&-: 17 lines printed, nothing logged
+  1 of <&- >&-: nothing printed, nothing logged
+  harness: cannot write the report
+  0 of <&- 2>&-: 17 lines printed, nothing logged
+  1 of >&- 2>&-: nothing printed, nothing logged
+  1 of <&- >&- 2>&-: nothing printed, nothing logged
+  $ closed harness --list --logfile log
+  0 of <&-: nothing printed, 17 lines logged
+  0 of >&-: nothing printed, 17 lines logged
+  0 of 2>&-: nothing printed, 17 lines logged
+  0 of <&- >&-: nothing printed, 17 lines logged
+  0 of <&- 2>&-: nothing printed, 17 lines logged
+  0 of >&- 2>&-: nothing printed, 17 lines logged
+  0 of <&- >&- 2>&-: nothing printed, 17 lines logged
+
+Those of `reports`.
+
   $ sums >all; harness --format json >mixed; [ $? = 101 ]
   $ reports compare - all <&-
   2> reports: -: Bad file descriptor (os error 9)
