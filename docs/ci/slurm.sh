@@ -1,20 +1,24 @@
 #!/bin/bash
-# Runs a suite in four shards, as an array of Slurm, waits for them, and joins their reports. Call it where you would call sbatch,
-# in a folder that all nodes share. It needs out/sums and out/reports, and ends with 101 if a trial failed.
+#SBATCH --output=sums.%a.log
+#SBATCH --time=20
+# Runs a suite in four shards, as an array of Slurm, waits for them, and joins their reports: `./slurm.sh`, where you would call
+# sbatch, in a folder that all nodes share. It needs out/sums and out/reports, and ends with 101 if a trial failed. `./slurm.sh 3`
+# runs shard 3 again, as `sbatch --array=3 slurm.sh` does, and joins.
 shards=4
-files=$(seq -f 'sums.%g.json' 0 $((shards - 1)))
+
+# In a task of the array. Its total isn't that of the array, which may be of one shard.
+if [ -n "$SLURM_ARRAY_TASK_ID" ]; then
+    export TEST_TOTAL_SHARDS=$shards TEST_SHARD_INDEX=$SLURM_ARRAY_TASK_ID
+    exec timeout 15m out/sums --format json --report-time --logfile "sums.$TEST_SHARD_INDEX.json"
+fi
 
 # A task that doesn't start would leave the report of an earlier run.
-rm -f $files
+[ $# -gt 0 ] || rm -f sums.*.json
 
-# The indexes of shards begin at 0 and have no holes, so those of the array must, too. The status here is the greatest of the
-# tasks, and the reports have more than that.
-sbatch --wait --array="0-$((shards - 1))" --output=sums.%a.log <<'TASK'
-#!/bin/bash
-export TEST_TOTAL_SHARDS=$SLURM_ARRAY_TASK_COUNT TEST_SHARD_INDEX=$SLURM_ARRAY_TASK_ID
-exec out/sums --format json --logfile "sums.$TEST_SHARD_INDEX.json"
-TASK
+# The reports have more than the status here, which is the greatest of the tasks.
+sbatch --wait --array="${1:-0-$((shards - 1))}" "$0"
 
-out/reports junit --name sums $files >junit.xml
+# If a shard was killed or lost, it joins what there is.
+out/reports join --cut --by-name --shards "$shards" sums.*.json >all.json
 # Last, since this script ends with its status: 101 if a trial failed, and 1 if a report is cut or lost.
-out/reports join --shards "$shards" $files >all.json
+out/reports junit --status --name sums all.json >junit.xml
