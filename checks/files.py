@@ -165,6 +165,25 @@ def check_at_once(shim, update):
             first.wait()
 
 
+def check_last_wins():
+    """Of two updates at once that differ the last one wins, whole."""
+    known = pathlib.Path("known")
+    known.write_text(OLD, encoding="utf-8")
+    title, *rows = REPORT.encode().splitlines(keepends=True)
+    line = [runner.program("reports"), "expect", "--update", "known", "-"]
+    streams = {"stdin": subprocess.PIPE, "stdout": subprocess.DEVNULL, "bufsize": 0}
+    with subprocess.Popen(line, **streams) as first, subprocess.Popen(line, **streams) as last:
+        for process in first, last:
+            # The known failures are read before the report.
+            process.stdin.write(title)
+            runner.wait_until_read(process.stdin)
+        for process, name in (first, "b"), (last, "c"):
+            process.stdin.write(b"".join(rows).replace(b'"b"', f'"{name}"'.encode()))
+            process.stdin.close()
+            status, text = process.wait(timeout=60), known.read_text(encoding="utf-8")
+            assert (status, text) == (0, f"# {TEXT}" + FAILURE.format(name)), f"{name}: {status}, {text[-200:]}"
+
+
 def checks(shim):
     for name, update in UPDATES.items():
         yield f"{name} reach the disk", lambda update=update: check_reaches_disk(shim, update)
@@ -173,6 +192,7 @@ def checks(shim):
         for error in ERRORS:
             how = f"calls that fail: {errno.errorcode[error]}"
             yield f"{name} and {how}", lambda update=update, error=error: check_each_call(shim, update, error)
+    yield "known failures and two updates that differ", check_last_wins
 
 
 with tempfile.TemporaryDirectory() as place:

@@ -6,14 +6,11 @@
 A program that says of these that there is no memory would meet its contract.
 """
 
-import fcntl
 import os
 import pathlib
 import resource
-import select
 import shlex
 import subprocess
-import termios
 import threading
 import time
 
@@ -124,7 +121,7 @@ def check_endless_pieces(words):
         try:
             for _ in range(60):
                 process.stdin.write(bytes(100))
-                wait_until_read(process.stdin)
+                runner.wait_until_read(process.stdin)
             process.stdin.close()
         except BrokenPipeError:
             pass
@@ -132,17 +129,6 @@ def check_endless_pieces(words):
         process.wait(timeout=60)
     wanted = 1, f"reports: {place}its first line is too long for a report\n"
     assert (process.returncode, said) == wanted, f"{process.returncode}, {said!r}"
-
-
-def wait_until_read(pipe):
-    """Waits until nothing is left in the pipe, or nobody reads it."""
-    left, reads = bytearray(4), select.poll()
-    reads.register(pipe, 0)
-    for _ in range(1000):
-        fcntl.ioctl(pipe, termios.FIONREAD, left)
-        if not any(left) or reads.poll(0):
-            return
-        time.sleep(0.01)
 
 
 def check_late_rest():

@@ -1,10 +1,13 @@
 """What the checks of built programs share: where these are, and how checks are run and counted."""
 
+import fcntl
 import os
 import pathlib
+import select
 import subprocess
 import sys
 import tempfile
+import termios
 import time
 
 TOP = pathlib.Path(__file__).resolve().parent.parent
@@ -33,6 +36,17 @@ def ended(line, **settings):
     how = {"stdout": subprocess.PIPE, "stderr": subprocess.PIPE, "encoding": "utf-8", "timeout": 60, "check": False}
     got = subprocess.run([program(line[0]), *line[1:]], **{**how, **settings})
     return got.returncode, got.stdout, got.stderr
+
+
+def wait_until_read(pipe):
+    """Waits until nothing is left in the pipe, or nobody reads it."""
+    left, reads = bytearray(4), select.poll()
+    reads.register(pipe, 0)
+    for _ in range(1000):
+        fcntl.ioctl(pipe, termios.FIONREAD, left)
+        if not any(left) or reads.poll(0):
+            return
+        time.sleep(0.01)
 
 
 def run(names, checks):
