@@ -21,6 +21,9 @@ MOST_BYTES = 32 << 20
 # A second thread's stack is 8 MB, and what an allocator reserves for it 64 MB more.
 MOST_OF_TWO = 128 << 20
 MANY = 110_000
+# A page of as many rows takes some 150 MB.
+LISTED = 1_100_000
+MOST_OF_PAGE = 256 << 20
 # More than any number in the code that could end a loop.
 STREAMED = 3_000_000
 # More than 16 bits count.
@@ -99,6 +102,24 @@ def check_streamed(line, end):
         process.stdin.write(summary(STREAMED, 0).encode())
         out = process.communicate(timeout=60)[0].decode()
     assert process.returncode == 0 and out.endswith(end), f"{process.returncode}, {out!r}"
+
+
+def check_page():
+    """A page lists as many rows as are asked for, and takes memory for them alone."""
+    piece = title(LISTED).encode()
+    with open("listed", "wb") as file:
+        for first in range(0, LISTED, 10_000):
+            file.write(piece)
+            piece = rows((place, '"ok"') for place in range(first, first + 10_000)).encode()
+        file.write(piece + summary(LISTED, 0).encode())
+    with open("page", "wb") as page:
+        line = ["reports", "page", "--rows", str(LISTED), "listed"]
+        status, _, said = runner.ended(line, stdout=page, preexec_fn=limited(MOST_OF_PAGE))
+    with open("page", encoding="utf-8") as page:
+        count = sum(line.count("<li id=") for line in page)
+    os.remove("listed")
+    os.remove("page")
+    assert (status, count) == (0, LISTED), f"{status}, {count}, {said}"
 
 
 def check_no_report(text):
@@ -202,6 +223,7 @@ def checks():
         yield line[:60], lambda line=line, rest=rest: check_large(line, *rest)
     for line, end in STREAMING:
         yield f"{line} of {STREAMED} rows", lambda line=line, end=end: check_streamed(line, end)
+    yield f"reports page --rows {LISTED} of as many", check_page
     for name, text in NO_REPORTS.items():
         yield f"readreport of {name}", lambda text=text: check_no_report(text)
     for words in READING:
