@@ -1,11 +1,13 @@
 #!/usr/bin/env -S python3 -B
-"""Counts how often bench_suite asks for memory, and looks at the peak that it prints.
+"""Counts how often bench_suite asks for memory, looks at the peak that it prints, and refuses memory of `reports watch`.
 
     checks/memory.py    prints a line for each check, and last `N passed, M failed`
 """
 
+import contextlib
 import os
 import re
+import select
 import subprocess
 import sys
 import tempfile
@@ -19,6 +21,16 @@ ASKING += [("pretty 2 dealt 1", 0), ("json 1 fail_every 1", 1), ("json 2 fail_ev
 FEW, MORE = 1000, 5000
 # Tables that grow ask some more times.
 GROWTH = 60
+# What `reports watch` prints without memory. If its thread can't be started, it doesn't know why.
+CAUSES = r"(reports|error): .*out of memory\n|reports: failed to spawn thread\n"
+# A report in two parts. `reports watch` prints a line of the first.
+PARTS = [
+    b'{ "type": "suite", "event": "started", "test_count": 1 }\n'
+    b'{ "type": "test", "event": "started", "name": "a" }\n'
+    b'{ "type": "test", "name": "a", "event": "failed" }\n',
+    b'{ "type": "suite", "event": "failed", "passed": 0, "failed": 1, "ignored": 0, "measured": 0, "filtered_out": 0, '
+    b'"exec_time": 0 }\n',
+]
 
 
 def requests(shim, words):
@@ -51,11 +63,39 @@ def check_peak():
     assert 20_000 < printed and 0.95 < printed / int(ended.stdout) < 1.05, f"{ended.stdout}, {ended.stderr}"
 
 
+def watched(shim, number):
+    """Returns the status and standard error of `reports watch` if this request was refused, and whether there was one."""
+    reader, writer = os.pipe()
+    settings = {**os.environ, "LD_PRELOAD": shim, "REFUSED": str(number), "TOLD": str(writer)}
+    streams = {"stdin": subprocess.PIPE, "stdout": subprocess.PIPE, "stderr": subprocess.PIPE, "bufsize": 0}
+    with subprocess.Popen([runner.program("reports"), "watch"], env=settings, pass_fds=[writer], **streams) as process:
+        os.close(writer)
+        with contextlib.suppress(BrokenPipeError):
+            process.stdin.write(PARTS[0])
+        # The second part is read after the first was shown.
+        select.select([process.stdout, process.stderr], [], [], 60)
+        _, said = process.communicate(PARTS[1], timeout=60)
+    with os.fdopen(reader, "rb") as told:
+        return (process.returncode, said.decode()), told.read() != b""
+
+
+def check_refusals(shim):
+    """Whichever request is refused, of either thread, `reports watch` shows the report or says why it doesn't."""
+    ample, _ = watched(shim, 0)
+    ends, was_refused = [], True
+    while was_refused:
+        end, was_refused = watched(shim, len(ends) + 1)
+        ends.append(end)
+    odd = [(status, said) for status, said in ends if (status, said) != ample and not (status == 1 and re.fullmatch(CAUSES, said))]
+    assert ample == (101, "") and len(ends) > 100 and not odd, f"{ample}, {len(ends)}, {odd}"
+
+
 def checks(shim):
     for words, most in ASKING:
         yield f"bench_suite N {words}", lambda words=words, most=most: check_requests(shim, words, most)
     yield "the peak of bench_suite", check_peak
+    yield "reports watch without memory", lambda: check_refusals(shim)
 
 
 with tempfile.TemporaryDirectory() as folder:
-    runner.run(["bench_suite"], checks(runner.shim("refuse_memory", folder)))
+    runner.run(["bench_suite", "reports"], checks(runner.shim("refuse_memory", folder)))
