@@ -108,6 +108,11 @@ THREADS = [
 ]
 # The same on a machine of so many processors, of a program whose workers are as many by default.
 ON_PROCESSORS = [("example_sorts", 1, 1), ("example_sorts", 2, 4)]
+# A name with control characters, ends of lines and what looks like one by number, which is longer than what is written at once, and
+# how a line shows it. A line of Unicode's that has this name, and this number of characters in each column, takes a while.
+HOSTILE = "a\x1b[31m\rb\x85\u2028\u2029\\u{7}" + 5000 * "x"
+HOSTILE_SHOWN = r"a\u{1b}[31m\u{d}b\u{85}\u{2028}\u{2029}\u{5c}u{7}" + 5000 * "x"
+SLOW = 500_000
 # A user of whom no other program runs. Words of bench_suite, how many threads it may have at once beside its own, and whether slow
 # trials are looked for then: only if there is room for a worker beside that, or for all if each has a share.
 USER = 65_533
@@ -136,6 +141,25 @@ def check_threads(shim, line, count, processors=None):
     with os.fdopen(reader, "rb") as started:
         threads = len(started.read())
     assert threads == count, f"{threads} threads"
+
+
+def check_notice(shim):
+    """A slow trial is named in one line, whatever its name has, and however long it is."""
+    column = " ".join(SLOW * ["0041"])
+    with open("slow", "w", encoding="utf-8") as file:
+        file.write(5 * f"{column};" + f" # {HOSTILE}\n")
+    line = "conformance normalization slow -- --test-threads 1".split()
+    status, _, err = runner.ended(line, env={**os.environ, "LD_PRELOAD": shim, "HASTE": "1"})
+    os.remove("slow")
+    shown = f"conformance: [normalization] line 1: {HOSTILE_SHOWN} has been running for over 60 seconds\n"
+    assert (status, err) == (0, shown), f"{status}, {err!r}"
+
+
+def check_many_threads(shim, words, status, rows):
+    """Only some of as many threads as are asked for can be started."""
+    line = ["bench_suite", "30000", "json", "1000000", *words.split()]
+    ended, out, err = runner.ended(line, env={**os.environ, "LD_PRELOAD": shim, "MOST": "100"})
+    assert (ended, out.count('"event": "ok" }')) == (status, rows), f"{ended}, {out[-200:]}, {err}"
 
 
 def check_no_thread(shim):
@@ -196,6 +220,10 @@ def checks(shim):
     for threads in (1, 2):
         yield f"bench_suite {MANY} json {threads} with times", lambda threads=threads: check_times(shim, threads, 9)
     yield "example_sums without a thread", lambda: check_no_thread(shim)
+    yield "a slow trial of conformance with a hostile name", lambda: check_notice(shim)
+    for words, *rest in ("", 0, 30_000), ("slow_limit 60000", 0, 30_000), ("dealt 1", 1, 0):
+        row = words, *rest
+        yield f"bench_suite 30000 json 1000000 {words}".rstrip(), lambda row=row: check_many_threads(shim, *row)
     # Only root runs a program as another user.
     for words, room, looks in ROOM if os.geteuid() == 0 else ():
         yield f"bench_suite 100 {words} and room for {room}", lambda row=(words, room, looks): check_room(*row)
@@ -212,5 +240,6 @@ def checks(shim):
         yield f"bench_suite {row[0]} with workers: {row[1]}", lambda row=row: check_refused_worker(shim, *row)
 
 
+PROGRAMS = ["bench_suite", "conformance", "example_sorts", "example_sums", "harness"]
 with tempfile.TemporaryDirectory() as folder:
-    runner.run(["bench_suite", "example_sorts", "example_sums", "harness"], checks(runner.shim("known_machine", folder)))
+    runner.run(PROGRAMS, checks(runner.shim("known_machine", folder)))
