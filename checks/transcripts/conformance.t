@@ -168,6 +168,67 @@ sample of ten cases passes, those below `failing` fail, and those below `wrong` 
   
   [101]
 
+A value of another type is another one, and so is a number in place of NaN. The case `same` passes.
+
+  $ value() { mkdir -p values/valid; echo "v = $2" >values/valid/$1.toml; echo "{\"v\": {$3}}" >values/valid/$1.json; }
+  $ value text '"3"' '"type": "integer", "value": "3"'
+  $ value number 3 '"type": "string", "value": "3"'
+  $ value nan nan '"type": "float", "value": "1.0"'
+  $ value no-nan 1.0 '"type": "float", "value": "nan"'
+  $ value same '-nan' '"type": "float", "value": "nan"'
+  $ run toml values
+  
+  running 5 tests
+  FFF.F
+  failures:
+  
+  ---- nan ----
+  /v: expected {"type":"float","value":"1.0"}, answered {"type":"float","value":"NaN"}
+  
+  ---- no-nan ----
+  /v: expected {"type":"float","value":"nan"}, answered {"type":"float","value":"1"}
+  
+  ---- number ----
+  /v: expected {"type":"string","value":"3"}, answered {"type":"integer","value":"3"}
+  
+  ---- text ----
+  /v: expected {"type":"integer","value":"3"}, answered {"type":"string","value":"3"}
+  
+  
+  failures:
+      nan
+      no-nan
+      number
+      text
+  
+  test result: FAILED. 1 passed; 4 failed; 0 ignored; 0 measured; 0 filtered out; finished in 0.00s
+  
+  [101]
+
+NFD and NFKD are looked at, too. What a line says of its other columns follows from the first, unless the tables are wrong.
+
+  $ printf '%s\n' '00E9;00E9;00E9;00E9;0065 0301; # NFD is cut' 'FB01;FB01;FB01;0066 0069;FB01; # NFKD has no ligature' >forms
+  $ run normalization forms
+  
+  running 2 tests
+  FF
+  failures:
+  
+  ---- line 1: NFD is cut ----
+  NFD of c1: expected 00E9, answered 0065 0301
+  
+  ---- line 2: NFKD has no ligature ----
+  NFKD of c1: expected FB01, answered 0066 0069
+  
+  
+  failures:
+      line 1: NFD is cut
+      line 2: NFKD has no ligature
+  
+  test result: FAILED. 0 passed; 2 failed; 0 ignored; 0 measured; 0 filtered out; finished in 0.00s
+  
+  [101]
+
   $ conformance normalization wrong/NormalizationTest.txt
   2> conformance: wrong/NormalizationTest.txt: line 3: it doesn't have five columns that each end with a semicolon
   [1]
