@@ -184,6 +184,21 @@ Trials that run for longer than a limit are printed while they run.
   bench_suite: test_000001 has been running for over 200 ms
   n=2 format=json threads=2 fail_every=0 .* (re)
 
+With 0 none are printed, and nor are they with the longest limit.
+
+  $ bench_suite 1 json 1 wait 100 slow_limit 0 | timeless
+  { "type": "suite", "event": "started", "test_count": 1 }
+  { "type": "test", "event": "started", "name": "test_000000" }
+  { "type": "test", "name": "test_000000", "event": "ok" }
+  { "type": "suite", "event": "ok", "passed": 1, "failed": 0, "ignored": 0, "measured": 0, "filtered_out": 0, "exec_time": 0 }
+  2> n=1 format=json threads=1 fail_every=0 .* (re)
+  $ bench_suite 1 json 2 wait 100 slow_limit 18446744073709551615 | timeless
+  { "type": "suite", "event": "started", "test_count": 1 }
+  { "type": "test", "event": "started", "name": "test_000000" }
+  { "type": "test", "name": "test_000000", "event": "ok" }
+  { "type": "suite", "event": "ok", "passed": 1, "failed": 0, "ignored": 0, "measured": 0, "filtered_out": 0, "exec_time": 0 }
+  2> n=1 format=json threads=2 fail_every=0 .* (re)
+
 Words that are refused.
 
   $ while read -r words; do bench_suite $words 2>>said; echo "status $?"; done <<'.' | uniq -c; uniq -c said
