@@ -30,6 +30,8 @@ REPORT = (
     '"exec_time": 0 }\n'
 )
 MODE = 0o640
+# A disk on which no folder for temporary files is.
+FAR = "/dev/shm"
 
 
 class Update(typing.NamedTuple):
@@ -184,6 +186,20 @@ def check_last_wins():
             assert (status, text) == (0, f"# {TEXT}" + FAILURE.format(name)), f"{name}: {status}, {text[-200:]}"
 
 
+def check_far():
+    """What a link leads to on another disk is replaced there."""
+    update = UPDATES["no output"]
+    with tempfile.TemporaryDirectory(dir=FAR) as far:
+        assert os.stat(far).st_dev != os.stat(".").st_dev, far
+        kept = pathlib.Path(far, "kept")
+        kept.write_text(TEXT, encoding="utf-8")
+        update.make()
+        os.symlink(kept, "folder/a.out")
+        ended = runner.ended(update.line.split(), cwd="folder")
+        assert (ended[0], kept.read_text(encoding="utf-8")) == (0, TEXT.upper()), f"{ended}"
+        assert os.path.islink("folder/a.out") and os.listdir(far) == ["kept"], f"{os.listdir(far)}"
+
+
 def checks(shim):
     for name, update in UPDATES.items():
         yield f"{name} reach the disk", lambda update=update: check_reaches_disk(shim, update)
@@ -193,6 +209,7 @@ def checks(shim):
             how = f"calls that fail: {errno.errorcode[error]}"
             yield f"{name} and {how}", lambda update=update, error=error: check_each_call(shim, update, error)
     yield "known failures and two updates that differ", check_last_wins
+    yield "a link to an output on another disk", check_far
 
 
 with tempfile.TemporaryDirectory() as place:

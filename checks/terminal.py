@@ -47,19 +47,21 @@ failures:
 test result: FAILED. 2 passed; 1 failed; 0 ignored; 0 measured; 0 filtered out; finished in 0.00s
 
 """
-# Characters from U+0080 to U+009F in a kind, a name and a message, which also has what looks like one by number, and a colour.
-CONTROLS = SUMS.replace('"2 + 2"', '"2\x9b2", "kind": "\x80"').replace("left: 4", "\\u001b[1mleft\\u001b[0m: \\\\u{9b}\x9f")
+# Characters from U+0080 to U+009F in kinds, names and a message, which also has what looks like one by number, a colour, and others
+# that stay: a tab, U+007F and U+00A0.
+CONTROLS = SUMS.replace('"2 + 2"', '"2\x9b2", "kind": "\x80"').replace('"7 + 0"', '"7\x9f0", "kind": "\x80"')
+CONTROLS = CONTROLS.replace("left: 4", "\\u001b[1mleft\\u001b[0m:\\t\\\\u{9b}\x9f\x7f\xa0")
 CONTROLS_SHOWN = """
 running 3 tests
 test          1 + 1    ... ok
 test [\\u{80}] 2\\u{9b}2 ... FAILED
-test          7 + 0    ... ok
+test [\\u{80}] 7\\u{9f}0 ... ok
 
 failures:
 
 ---- 2\\u{9b}2 ----
 assertion `left == right` failed
-  \x1b[1mleft\x1b[0m: \\u{5c}u{9b}\\u{9f}
+  \x1b[1mleft\x1b[0m:\t\\u{5c}u{9b}\\u{9f}\x7f\xa0
  right: 5
 
 
@@ -69,6 +71,8 @@ failures:
 test result: FAILED. 2 passed; 1 failed; 0 ignored; 0 measured; 0 filtered out; finished in 0.00s
 
 """
+CUT = CONTROLS[: CONTROLS.rindex("{")]
+CUT_SHOWN = CONTROLS_SHOWN[: CONTROLS_SHOWN.index("\ntest result:")] + "\nthe report ends after 3 of 3 trials\n"
 FAILURES = CONTROLS_SHOWN[CONTROLS_SHOWN.index("\nfailures:") : CONTROLS_SHOWN.index("\ntest result:")]
 FAILURES = FAILURES.replace("2\\u{9b}2", "[\\u{80}] 2\\u{9b}2")
 WATCHED = "FAILED 2 + 2\n    assertion `left == right` failed\n      left: 4\n     right: 5\n"
@@ -78,7 +82,7 @@ def coloured(shown):
     return shown.replace(" ok", " \x1b[32mok\x1b[0m").replace(" FAILED", " \x1b[31mFAILED\x1b[0m")
 
 
-# Words of `reports show`, settings, a report, and what a terminal shows.
+# Words of `reports show`, settings, a report, and what a terminal shows. If the report is cut, that is said, too, with status 1.
 SHOWS = [
     ("sums", {"TERM": "xterm"}, SUMS, coloured(SHOWN)),
     ("sums", {"TERM": "xterm", "NO_COLOR": ""}, SUMS, coloured(SHOWN)),
@@ -91,6 +95,7 @@ SHOWS = [
     ("controls", {"TERM": "dumb"}, CONTROLS, CONTROLS_SHOWN),
     ("--color never controls", {"TERM": "xterm"}, CONTROLS, CONTROLS_SHOWN),
     ("--failed controls", {"TERM": "xterm"}, CONTROLS, FAILURES),
+    ("cut", {"TERM": "dumb"}, CUT, CUT_SHOWN, 1, "reports: cut: the report is cut\n"),
 ]
 
 
@@ -124,11 +129,11 @@ def on_terminal(words, settings, given):
     return process.returncode, got.decode(), said.decode()
 
 
-def check_show(words, settings, report, shown):
+def check_show(words, settings, report, shown, status=101, said=""):
     words = words.split()
     pathlib.Path(words[-1]).write_text(report, encoding="utf-8")
     found = on_terminal(["show", *words], settings, lambda *_: None)
-    assert found == (101, shown, ""), f"{found!r}"
+    assert found == (status, shown, said), f"{found!r}"
 
 
 def check_live():
