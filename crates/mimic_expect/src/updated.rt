@@ -48,8 +48,8 @@ impl UpdateVerdict {
 /// `lax` it stays. That of an absent trial goes. Behind them come the lines of the failures that are not known, in the order of the
 /// reports. If the last line of the old text has no end, it gets one.
 ///
-/// Failures and rows of known kinds and names are kept meanwhile, and no others. Tables hash by `hash_builder`, as those of
-/// `write_unexpected` do.
+/// Failures and rows of known kinds and names are kept meanwhile, and no others. Tables of kinds, names and messages hash by
+/// `hash_builder`, as those of `write_unexpected` do.
 ///
 /// If an input is no whole report, nothing is written: the verdict says how each ended. Without memory nothing was written either,
 /// and with a fault of the writer a beginning.

@@ -57,8 +57,8 @@ pub(crate) struct Listing {
 /// A row has an id that is made of its kind and name, so that a link to it leads to the trial of that name on a later page too. Rows with
 /// the same kind and name have the same id, and a link leads to the first of them.
 ///
-/// Of a report that is cut or was not read to its end these are the rows that have ended. The page says why, and of a cut one how many
-/// are missing, of the other how many have ended. With a fault a beginning of the page was written.
+/// Of a report that is cut or was not read to its end these are the rows that have ended. The page says why, and how many are missing
+/// of a cut one that has a title, or how many have ended of the other. With a fault a beginning of the page was written.
 #[tactic(auto, using(crate::proofs::PageLaws::page_laws))]
 pub fn write_page<W: Write>(page: &PageContents<'_>, sink: &mut Sink<W>) -> Result<(), WriteFault>
     requires { HasFaultLeft sink.old }
