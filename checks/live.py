@@ -17,6 +17,8 @@ import time
 import runner
 
 MANY = 20_000
+# As many characters in each column of a line of Unicode's take longer than thousands of short lines.
+LONG = 500_000
 # Words of harness, for how many bytes of its output there is room, and the status.
 ROOM = [("--list a", "all", 0), ("--list a", "all but one", 1), ("--exact cat", 20, 1), ("--list --help", 0, 0)]
 
@@ -81,6 +83,37 @@ def check_own_times():
     times = {row["name"]: row["exec_time"] for row in map(json.loads, out.splitlines()[1:-1]) if "exec_time" in row}
     long = [name for name, seconds in times.items() if seconds >= 1]
     assert len(times) == 9 and long == ["test_000004"], f"{times}"
+
+
+def behind_long(count):
+    """Returns how many of this number of trials end after the first, which takes long."""
+    column = " ".join(LONG * ["0041"])
+    lines = 5 * f"{column};" + " # long\n" + (count - 1) * "0041;0041;0041;0041;0041; # A\n"
+    pathlib.Path("lines").write_text(lines, encoding="utf-8")
+    status, out, _ = runner.ended("conformance normalization lines -- --format json --test-threads 2".split())
+    os.remove("lines")
+    names = [row["name"] for row in map(json.loads, out.splitlines()[1:-1]) if row["event"] == "ok"]
+    assert (status, len(names)) == (0, count), f"{status}, {len(names)}"
+    return count - 1 - names.index("line 1: long")
+
+
+def check_batches(count, most):
+    """A trial that takes long holds up no more than what its worker has taken with it, unless the machine holds the other worker up."""
+    tries = []
+    while min(tries, default=count) > most and len(tries) < 5:
+        tries.append(behind_long(count))
+    assert min(tries) <= most, f"{tries}"
+
+
+def check_one_write():
+    """A line that a pipe takes at once is one write. Of this pipe each read takes what one write put."""
+    reader, writer = os.pipe2(os.O_DIRECT)
+    cause = "reports: {}: File name too long (os error 36)\n"
+    line = cause.format((4096 - len(cause.format(""))) * "x")
+    status, *_ = runner.ended(["reports", "show", line.split(": ")[1]], stderr=writer)
+    os.close(writer)
+    with os.fdopen(reader, "rb", buffering=0) as printed:
+        assert (status, printed.read(8192)) == (1, line.encode()), f"{status}"
 
 
 def check_logfile():
@@ -148,6 +181,10 @@ def checks():
     yield "reports watch on a screen that nobody reads", check_slow_screen
     yield "reports watch of an input that doesn't block", check_waiting_input
     yield "times of trials of two threads", check_own_times
+    # Two workers take single trials if each has fewer than 128, and up to 32 at once of many.
+    for count, most in (255, 0), (10_000, 31):
+        yield f"a long trial before {count - 1}", lambda row=(count, most): check_batches(*row)
+    yield "a line of 4096 bytes", check_one_write
     yield "a logfile while trials run", check_logfile
     yield "the end of example_sums", check_quick_end
     yield "a full pipe that nobody reads", check_full_pipe
@@ -156,4 +193,4 @@ def checks():
         yield f"harness {words} and room for {room} bytes", lambda row=row: check_room(*row)
 
 
-runner.run(["bench_suite", "example_sums", "harness", "reports"], checks())
+runner.run(["bench_suite", "conformance", "example_sums", "harness", "reports"], checks())
