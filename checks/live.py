@@ -18,7 +18,7 @@ import runner
 
 MANY = 20_000
 # As many characters in each column of a line of Unicode's take longer than thousands of short lines.
-LONG = 500_000
+LONG = 4_000_000
 # Words of harness, for how many bytes of its output there is room, and the status.
 ROOM = [("--list a", "all", 0), ("--list a", "all but one", 1), ("--exact cat", 20, 1), ("--list --help", 0, 0)]
 
@@ -182,7 +182,7 @@ def checks():
     yield "reports watch of an input that doesn't block", check_waiting_input
     yield "times of trials of two threads", check_own_times
     # Two workers take single trials if each has fewer than 128, and up to 32 at once of many.
-    for count, most in (255, 0), (10_000, 31):
+    for count, most in (255, 0), (5_000, 31):
         yield f"a long trial before {count - 1}", lambda row=(count, most): check_batches(*row)
     yield "a line of 4096 bytes", check_one_write
     yield "a logfile while trials run", check_logfile
